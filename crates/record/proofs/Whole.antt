@@ -24,14 +24,14 @@ use Rattle.std.proofs.shelf.Signed.{ints, toZ-ofZ, ofZ-toZ}
 use Rattle.std.proofs.shelf.Tests.{and-parts, and-from, eqb-true, eq-eqb, ne-eqb}
 use Rattle.record.specs.declared.units.Unit.{Unit as Measure}
 use Rattle.record.specs.declared.units.Unit.the-variants.{Plain, Metre, Bar, Celsius, Second, Ampere, Volt, Revolution}
-use Rattle.record.specs.declared.fields.Exponent.{Exponent}
-use Rattle.record.specs.declared.fields.Number.{Number}
+use Rattle.record.specs.declared.fields.Exponent.{Exponent as Power}
+use Rattle.record.specs.declared.fields.Number.{Number as Figure}
 use Rattle.record.specs.declared.fields.Record.{Record}
 use Rattle.record.specs.declared.refusals.RecordError.{RecordError}
-use Rattle.record.specs.declared.refusals.RecordError.the-variants.{Length}
+use Rattle.record.specs.declared.refusals.RecordError.the-variants.{Unit, Exponent, Name, Number, Length}
 use Rattle.record.specs.Ranges.{within, exponent-fits, number-fits, printable, named}
 use Rattle.record.specs.Units.{code-of, unit-at}
-use Rattle.record.specs.Refusals.{refusal, refused, unless}
+use Rattle.record.specs.Refusals.{refusal, refused, check}
 use Rattle.record.specs.Making.{Parts, parts, parts-of, parts-refusal}
 use Rattle.record.specs.Layout.{four-bytes, four-at, layout, parts-at, bytes-refusal, Rereads}
 use Rattle.record.proofs.Equal.{records-equal}
@@ -66,10 +66,10 @@ size : (lo hi b : ℕ) (z : ℤ) → lo < b → hi < b → negsuc lo ≤ℤ z �
 size lo hi b (pos n) p q l h = let e = leb→le n hi (h .le) in omega arith
 size lo hi b (negsuc n) p q l h = let e = leb→le n lo (l .le) in omega arith
 
-pub exponent-width : (x : Exponent) → SFits w8 (x .value)
+pub exponent-width : (x : Power) → SFits w8 (x .value)
 exponent-width x = record { sfits = size 3 4 (2 ^ 7) (x .value) (lit< tt) (lit< tt) (x .low) (x .high) }
 
-pub number-width : (x : Number) → SFits w32 (x .value)
+pub number-width : (x : Figure) → SFits w32 (x .value)
 number-width x = record { sfits = size 8999999 9000000 (2 ^ 31) (x .value) (lit< tt) (lit< tt) (x .low) (x .high) }
 
 holds : (b : Bool) → T b → b ≡ true
@@ -79,10 +79,10 @@ holds false t = absurd t
 le-test : (a b : ℤ) → a ≤ℤ b → leZ a b ≡ true
 le-test a b h = holds (leZ a b) (h .le)
 
-exponent-passes : (x : Exponent) → exponent-fits (x .value) ≡ true
+exponent-passes : (x : Power) → exponent-fits (x .value) ≡ true
 exponent-passes x = and-from _ _ (le-test _ _ (x .low)) (le-test _ _ (x .high))
 
-number-passes : (x : Number) → number-fits (x .value) ≡ true
+number-passes : (x : Figure) → number-fits (x .value) ≡ true
 number-passes x = and-from _ _ (le-test _ _ (x .low)) (le-test _ _ (x .high))
 
 -- ---- four bytes
@@ -158,7 +158,7 @@ name-part a b h = take-append-le 16 a b (omega arith) ∙ take-all 16 a (omega a
 number-part : (a b : List ℕ) → length a ≡ 16 → drop 16 (a ++ b) ≡ b
 number-part a b h = drop-append-le 16 a b (omega arith) ∙ ap (λ l. l ++ b) (drop-all 16 a (omega arith))
 
-unsigned : (x : Number) → ofZ w32 (x .value) < 2 ^ 32
+unsigned : (x : Figure) → ofZ w32 (x .value) < 2 ^ 32
 unsigned x = of-fits (x .value) (number-width x) where
   of-fits : (z : ℤ) → SFits w32 z → ofZ w32 z < 2 ^ 32
   of-fits (pos n) s = let f = s .sfits in omega arith
@@ -199,7 +199,7 @@ last-four a b c d n t h =
     omega arith
 
 passes : (a b c d e : Bool) → a ≡ true → b ≡ true → c ≡ true → d ≡ true → e ≡ true
-    → unless a 5 (unless b 1 (unless c 2 (unless d 3 (unless e 4 None)))) ≡ None
+    → check a Length (check b Unit (check c Exponent (check d Name (check e Number None)))) ≡ None
 passes a b c d e ha hb hc hd he = cc
 
 -- the bytes of a record are not refused
@@ -241,14 +241,14 @@ pub record Reads (x : List ℕ) (a : Result Record RecordError) : Type 0 where
 pub not-long : (x : List ℕ) → (length x ≡ 24 → ⊥) → Reads x (Err Length)
 not-long x n = record { refuses = refuses; rewrites = tt; rereads = reread x (Err Length) refuses tt } where
   refuses : Some 5 ≡ bytes-refusal x
-  refuses = ap (λ t. unless t 5 (parts-refusal (parts-at x))) (sym (ne-eqb _ _ n))
+  refuses = ap (λ t. check t Length (parts-refusal (parts-at x))) (sym (ne-eqb _ _ n))
 
 -- 24 bytes are read by their parts
 pub long : (x : List ℕ) (a : Result Record RecordError) → length x ≡ 24 → ((i : ℕ) → getD x i 0 < 256)
     → refused a ≡ parts-refusal (parts-at x) → made a (λ y. parts-of y ≡ parts-at x) → Reads x a
 long x a h b r m = record { refuses = refuses; rewrites = writes a m; rereads = reread x a refuses (writes a m) } where
   refuses : refused a ≡ bytes-refusal x
-  refuses = r ∙ ap (λ t. unless t 5 (parts-refusal (parts-at x))) (sym (eq-eqb _ _ h))
+  refuses = r ∙ ap (λ t. check t Length (parts-refusal (parts-at x))) (sym (eq-eqb _ _ h))
 
   writes : (c : Result Record RecordError) → made c (λ y. parts-of y ≡ parts-at x) → made c (λ y. layout y ≡ x)
   writes (Ok y) s = rewritten x y h b s

@@ -14,37 +14,38 @@ use Rattle.std.specs.declared.result.Result.{Result}
 use Rattle.std.specs.declared.result.Result.the-variants.{Ok}
 use Rattle.record.specs.declared.fields.Record.{Record}
 use Rattle.record.specs.declared.refusals.RecordError.{RecordError}
+use Rattle.record.specs.declared.refusals.RecordError.the-variants.{Length}
 use Rattle.record.specs.Units.{code-of, unit-at}
-use Rattle.record.specs.Refusals.{unless}
+use Rattle.record.specs.Refusals.{check}
 use Rattle.record.specs.Making.{Parts, parts, parts-refusal}
 
--- a number as four bytes, and the number of the four bytes from i on
+-- A number as four bytes, and the number of the four bytes from i on.
 abbrev pub four-bytes : ℕ → List ℕ
 four-bytes n = (n / 16777216 % 256) ∷ (n / 65536 % 256) ∷ (n / 256 % 256) ∷ (n % 256) ∷ []
 
 abbrev pub four-at : List ℕ → ℕ → ℕ
 four-at x i = getD x i 0 * 16777216 + getD x (i + 1) 0 * 65536 + getD x (i + 2) 0 * 256 + getD x (i + 3) 0
 
--- parameter, unit and exponent
+-- Parameter, unit and exponent.
 abbrev pub head-bytes : Record → List ℕ
 head-bytes r = (r .parameter / 256) ∷ (r .parameter % 256) ∷ code-of (r .unit) ∷ ofZ w8 (r .exponent .value) ∷ []
 
--- the bytes of a record
+-- The bytes of a record.
 unfoldable pub layout : Record → List ℕ
 layout r = head-bytes r ++ (r .name .bytes ++ four-bytes (ofZ w32 (r .number .value)))
 
--- the parts where the layout has them
+-- The parts where the layout has them.
 abbrev pub parts-at : List ℕ → Parts
 parts-at x = parts (getD x 0 0 * 256 + getD x 1 0) (unit-at (getD x 2 0)) (toZ w8 (getD x 3 0)) (take 16 (drop 4 x)) (toZ w32 (four-at x 20))
 
--- why bytes are no record: the length first, then the parts
+-- Why bytes are no record: the length first, then the parts.
 abbrev pub bytes-refusal : List ℕ → Option ℕ
-bytes-refusal x = unless (eqb (length x) 24) 5 (parts-refusal (parts-at x))
+bytes-refusal x = check (eqb (length x) 24) Length (parts-refusal (parts-at x))
 
--- the first n elements of x, one by one
+-- The first n elements of x, one by one.
 abbrev pub listed : ℕ → List ℕ → List ℕ
 listed n x = map (λ k. getD x k 0) (counting 0 n)
 
--- record, bytes, record: if a record lies in the bytes, the answer is that record
+-- Record, bytes, record: if a record lies in the bytes, the answer is that record.
 abbrev pub Rereads : List ℕ → Result Record RecordError → Type 0
 Rereads bytes answer = (x : Record) → layout x ≡ bytes → answer ≡ Ok x

@@ -7,23 +7,23 @@ use lib.ListN.{length}
 use lib.IntN.{ℤ, pos, negsuc}
 use lib.Signed.{leZ}
 
--- low ≤ z ≤ high
+-- The number z is at least low and at most high.
 abbrev pub within : ℤ → ℤ → ℤ → Bool
 within low high z = leZ low z && leZ z high
 
--- an exponent is -4 to 4
+-- An exponent is -4 to 4.
 abbrev pub exponent-fits : ℤ → Bool
 exponent-fits z = within (negsuc 3) (pos 4) z
 
--- a number is -9,000,000 to 9,000,000
+-- A number is -9,000,000 to 9,000,000.
 abbrev pub number-fits : ℤ → Bool
 number-fits z = within (negsuc 8999999) (pos 9000000) z
 
--- each byte is 32 to 126
+-- Each byte is 32 to 126.
 abbrev pub printable : List ℕ → Bool
 printable [] = true
 printable (b ∷ bs) = (leb 32 b && leb b 126) && printable bs
 
--- a name is sixteen printable bytes
+-- A name is sixteen printable bytes.
 abbrev pub named : List ℕ → Bool
 named x = eqb (length x) 16 && printable x

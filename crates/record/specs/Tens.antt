@@ -2,7 +2,7 @@
 use Prim.Native.Nat.{ℕ, _+_, _-_, _^_}
 use lib.IntN.{ℤ, pos, negsuc, _*ℤ_}
 
--- the exponent plus 4
+-- The exponent plus 4.
 abbrev pub raised : ℤ → ℕ
 raised (pos e) = e + 4
 raised (negsuc e) = 3 - e

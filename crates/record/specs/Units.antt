@@ -10,7 +10,7 @@ use Rattle.std.specs.declared.option.Option.the-variants.{Some, None}
 use Rattle.record.specs.declared.units.Unit.{Unit as Measure}
 use Rattle.record.specs.declared.units.Unit.the-variants.{Plain, Metre, Bar, Celsius, Second, Ampere, Volt, Revolution}
 
--- the code of a unit in a record's bytes
+-- The code of a unit in a record's bytes.
 abbrev pub code-of : Measure → ℕ
 code-of Plain = 0
 code-of Metre = 1
@@ -21,22 +21,22 @@ code-of Ampere = 5
 code-of Volt = 6
 code-of Revolution = 7
 
--- the letters in the order of the codes
+-- The letters in the order of the codes.
 abbrev pub letters : List ℕ
 letters = codes "-mbCsAVr"
 
 abbrev pub letter-of : ℕ → ℕ
 letter-of code = getD letters code 0
 
--- the unit that has a code
+-- The unit that has a code.
 abbrev pub unit-at : ℕ → Option Measure
 unit-at code = getD (Some Plain ∷ Some Metre ∷ Some Bar ∷ Some Celsius ∷ Some Second ∷ Some Ampere ∷ Some Volt ∷ Some Revolution ∷ []) code None
 
--- where c first stands in a list, or the list's length
+-- Where c first stands in a list, or the list's length.
 abbrev pub place : List ℕ → ℕ → ℕ
 place [] c = 0
 place (x ∷ xs) c = cond (eqb c x) 0 (suc (place xs c))
 
--- the unit that a letter stands for
+-- The unit that a letter stands for.
 abbrev pub unit-of : ℕ → Option Measure
 unit-of letter = unit-at (place letters letter)

@@ -7,11 +7,12 @@ use lib.IntN.{ℤ, pos, negsuc, _*ℤ_}
 use Rattle.record.specs.declared.fields.Record.{Record}
 use Rattle.record.specs.Units.{code-of}
 
+-- The number over / under.
 pub record Fraction : Type 0 where
   pub over : ℤ
   pub under : ℕ
 
--- number × 10^exponent
+-- The value number × 10^exponent.
 abbrev pub scaled : ℤ → ℤ → Fraction
 scaled number (pos e) = record { over = number *ℤ pos (10 ^ e); under = 1 }
 scaled number (negsuc e) = record { over = number; under = 10 ^ suc e }
@@ -25,15 +26,15 @@ eqℤ (pos a) (negsuc b) = false
 eqℤ (negsuc a) (pos b) = false
 eqℤ (negsuc a) (negsuc b) = eqb a b
 
--- a / b and c / d are equal if a × d and c × b are
+-- Two fractions a / b and c / d are equal if a × d and c × b are.
 abbrev pub equal : Fraction → Fraction → Bool
 equal a b = eqℤ (a .over *ℤ pos (b .under)) (b .over *ℤ pos (a .under))
 
--- the same parameter, the same unit and equal values
+-- The same parameter, the same unit and equal values.
 abbrev pub same : Record → Record → Bool
 same r s = eqb (r .parameter) (s .parameter) && (eqb (code-of (r .unit)) (code-of (s .unit)) && equal (value r) (value s))
 
--- everything is like itself, in either order, and along a chain
+-- Everything is like itself, in either order, and along a chain.
 pub record Equivalence {A : Type 0} (alike : A → A → Bool) : Type 0 where
   pub itself : (x : A) → alike x x ≡ true
   pub turned : (x y : A) → alike x y ≡ true → alike y x ≡ true

@@ -1,0 +1,4 @@
+pub mod Bytes
+pub mod Meaning
+pub mod Calls
+pub mod Copies
