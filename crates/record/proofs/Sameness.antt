@@ -5,7 +5,7 @@ use lib.Dec.{eqb}
 use Rattle.std.proofs.shelf.Tests.{and-parts, and-from, eqb-true, eq-eqb}
 use Rattle.record.specs.declared.fields.Record.{Record}
 use Rattle.record.specs.Units.{code-of}
-use Rattle.record.specs.Values.{Equivalence, equal, same, value}
+use Rattle.record.specs.Values.{Equivalence, equal, same}
 use Rattle.record.specs.Tens.{ten-thousandths}
 use Rattle.record.proofs.Scaling.{tens-tell, eqℤ-true, eq-eqℤ}
 

@@ -1,7 +1,7 @@
 -- A record as 24 bytes: 0 and 1 the parameter, 2 the unit's code, 3 the exponent, 4 to 19 the name, 20 to 23 the number.
 -- Numbers of several bytes stand high byte first; exponent and number are in two's complement. Assumes nothing.
 use Prim.Native.Nat.{ℕ, _+_, _*_, _/_, _%_}
-use mathlib.Core.Bool.{Bool}
+use mathlib.Core.Bool.{Bool, not}
 use mathlib.Core.Path.{_≡_}
 use mathlib.Core.List.{List, [], _∷_, _++_, map}
 use lib.Dec.{eqb}
@@ -9,6 +9,7 @@ use lib.ListN.{length, getD, take, drop}
 use mir.Syntax.{w8, w32}
 use mir.Val.{toZ, ofZ}
 use Rattle.std.specs.Iters.{counting}
+use Rattle.std.specs.Options.{isSome}
 use Rattle.std.specs.declared.option.Option.{Option}
 use Rattle.std.specs.declared.result.Result.{Result}
 use Rattle.std.specs.declared.result.Result.the-variants.{Ok}
@@ -41,6 +42,10 @@ parts-at x = parts (getD x 0 0 * 256 + getD x 1 0) (unit-at (getD x 2 0)) (toZ w
 -- Why bytes are no record: the length first, then the parts.
 abbrev pub bytes-refusal : List ℕ → Option ℕ
 bytes-refusal x = check (eqb (length x) 24) Length (parts-refusal (parts-at x))
+
+-- A record lies in the bytes.
+unfoldable pub is-record : List ℕ → Bool
+is-record x = not (isSome (bytes-refusal x))
 
 -- The first n elements of x, one by one.
 abbrev pub listed : ℕ → List ℕ → List ℕ

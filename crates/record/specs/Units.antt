@@ -21,6 +21,11 @@ code-of Ampere = 5
 code-of Volt = 6
 code-of Revolution = 7
 
+-- The code of a unit that is there, and one that no unit has where none is.
+abbrev pub unit-code : Option Measure → ℕ
+unit-code (Some u) = code-of u
+unit-code None = 8
+
 -- The letters in the order of the codes.
 abbrev pub letters : List ℕ
 letters = codes "-mbCsAVr"

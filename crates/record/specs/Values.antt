@@ -2,10 +2,13 @@
 use Prim.Native.Nat.{ℕ, suc, _^_}
 use mathlib.Core.Path.{_≡_}
 use mathlib.Core.Bool.{Bool, true, false, _&&_}
+use mathlib.Core.List.{List}
 use lib.Dec.{eqb}
 use lib.IntN.{ℤ, pos, negsuc, _*ℤ_}
 use Rattle.record.specs.declared.fields.Record.{Record}
-use Rattle.record.specs.Units.{code-of}
+use Rattle.record.specs.Units.{unit-code}
+use Rattle.record.specs.Making.{Parts, parts-of}
+use Rattle.record.specs.Layout.{parts-at}
 
 -- The number over / under.
 pub record Fraction : Type 0 where
@@ -16,9 +19,6 @@ pub record Fraction : Type 0 where
 abbrev pub scaled : ℤ → ℤ → Fraction
 scaled number (pos e) = record { over = number *ℤ pos (10 ^ e); under = 1 }
 scaled number (negsuc e) = record { over = number; under = 10 ^ suc e }
-
-abbrev pub value : Record → Fraction
-value r = scaled (r .number .value) (r .exponent .value)
 
 abbrev pub eqℤ : ℤ → ℤ → Bool
 eqℤ (pos a) (pos b) = eqb a b
@@ -31,8 +31,17 @@ abbrev pub equal : Fraction → Fraction → Bool
 equal a b = eqℤ (a .over *ℤ pos (b .under)) (b .over *ℤ pos (a .under))
 
 -- The same parameter, the same unit and equal values.
+abbrev pub same-parts : Parts → Parts → Bool
+same-parts p q =
+    eqb (p .parameter) (q .parameter)
+    && (eqb (unit-code (p .unit)) (unit-code (q .unit)) && equal (scaled (p .number) (p .exponent)) (scaled (q .number) (q .exponent)))
+
 abbrev pub same : Record → Record → Bool
-same r s = eqb (r .parameter) (s .parameter) && (eqb (code-of (r .unit)) (code-of (s .unit)) && equal (value r) (value s))
+same r s = same-parts (parts-of r) (parts-of s)
+
+-- The same of records that are given by their bytes.
+unfoldable pub same-bytes : List ℕ → List ℕ → Bool
+same-bytes x y = same-parts (parts-at x) (parts-at y)
 
 -- Everything is like itself, in either order, and along a chain.
 pub record Equivalence {A : Type 0} (alike : A → A → Bool) : Type 0 where

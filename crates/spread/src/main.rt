@@ -1,0 +1,106 @@
+//! Spreads records over the nodes of each code, silences every set of nodes that a code bears, and
+//! rebuilds the record from what the others hold.
+//!
+//! Standard input has one record a line, as 48 hex digits.
+
+mod hex;
+mod trials;
+
+use code::C3;
+use code::C5;
+use code::Code;
+use code::CopiesCode;
+use code::OneSpare;
+use code::TwoSpares;
+use record::Record;
+use record::RecordError;
+use std::alloc::Global;
+use std::error::AnyError;
+use std::io::BufRead;
+use std::io::BufReader;
+
+// The record of a line, or its refusal: what is not 48 hex digits is not 24 bytes.
+fn record_of(line: &[u8]) -> Result<Record, RecordError> {
+    match hex::bytes_of(line) {
+        Some(bytes) => Record::from_bytes(&bytes),
+        None => Err(RecordError::Length),
+    }
+}
+
+// The name without its ending spaces, as text.
+fn name_of(heap: Global, record: &Record) -> Result<String, AnyError> {
+    let mut text = String::new(heap);
+    let mut spaces = 0usize;
+    for b in record.name.bytes.iter() {
+        if *b == b' ' {
+            spaces = spaces.saturating_add(1);
+            continue;
+        }
+        for _ in 0..spaces {
+            text.push(' ')?;
+        }
+        spaces = 0;
+        text.push(*b as char)?;
+    }
+    Ok(text)
+}
+
+// The five fields of a record.
+fn fields_of(heap: Global, record: &Record) -> Result<String, AnyError> {
+    let name = name_of(heap, record)?;
+    let parameter = record.parameter;
+    let letter = record.unit.letter();
+    let exponent = record.exponent.value;
+    let number = record.number.value;
+    Ok(format!(heap, "{parameter} {letter} {exponent} {name} {number}")?)
+}
+
+// The pieces of a record node by node, then what comes back with nodes silent.
+fn show<C: Code>(rt: &LibcRuntime, code: &str, record: &Record) -> Result<(), AnyError> {
+    let heap = rt.alloc();
+    let whole = record.to_bytes();
+    let pieces = trials::pieces_of::<C>(heap, &whole)?;
+    for (node, piece) in pieces.iter().enumerate() {
+        let digits = hex::digits(heap, piece.as_slice())?;
+        println!(rt, "{code} node {node} {digits}")?;
+    }
+    let result = trials::silence_all::<C>(heap, pieces.as_slice(), &whole)?;
+    let silent = C::silent();
+    let survived = result.survived;
+    let choices = result.choices;
+    let fields = match Record::from_bytes(&result.rebuilt) {
+        Ok(rebuilt) => fields_of(heap, &rebuilt)?,
+        Err(e) => format!(heap, "NO {}", e.number())?,
+    };
+    println!(
+        rt,
+        "{code} silent {silent} survived {survived} of {choices}: {fields}"
+    )?;
+    Ok(())
+}
+
+fn answer(rt: &LibcRuntime, line: &[u8]) -> Result<(), AnyError> {
+    match record_of(line) {
+        Ok(record) => {
+            println!(rt, "{}", fields_of(rt.alloc(), &record)?)?;
+            show::<C3>(rt, "C3", &record)?;
+            show::<C5>(rt, "C5", &record)
+        }
+        Err(e) => {
+            println!(rt, "NO {}", e.number())?;
+            Ok(())
+        }
+    }
+}
+
+fn run(rt: &LibcRuntime) -> Result<(), AnyError> {
+    for line in BufReader::new(rt.stdin()).lines(rt.alloc()) {
+        let line = line?;
+        answer(rt, line.as_bytes())?;
+    }
+    Ok(())
+}
+
+fn main(rt: LibcRuntime) -> Result<(), AnyError> {
+    rt.report(run(&rt))
+}
