@@ -17,7 +17,7 @@ fn digit(b: u8) -> Option<u8>
 }
 
 /// The 24 bytes of 48 hex digits.
-pub fn bytes_of(line: &[u8]) -> Option<[u8; 24]> {
+pub(crate) fn bytes_of(line: &[u8]) -> Option<[u8; 24]> {
     if line.len() != 48 {
         return None;
     }
@@ -31,7 +31,7 @@ pub fn bytes_of(line: &[u8]) -> Option<[u8; 24]> {
 }
 
 /// Two hex digits for each byte.
-pub fn digits(heap: Global, bytes: &[u8]) -> Result<String, AnyError> {
+pub(crate) fn digits(heap: Global, bytes: &[u8]) -> Result<String, AnyError> {
     let mut text = String::new(heap);
     for b in bytes {
         write!(text, "{b:02x}")?;

@@ -45,14 +45,14 @@ fn name_of(heap: Global, record: &Record) -> Result<String, AnyError> {
     Ok(text)
 }
 
-// The five fields of a record.
+// The five fields of a record, parted by tabs.
 fn fields_of(heap: Global, record: &Record) -> Result<String, AnyError> {
     let name = name_of(heap, record)?;
     let parameter = record.parameter;
     let letter = record.unit.letter();
     let exponent = record.exponent.value;
     let number = record.number.value;
-    Ok(format!(heap, "{parameter} {letter} {exponent} {name} {number}")?)
+    Ok(format!(heap, "{parameter}\t{letter}\t{exponent}\t{name}\t{number}")?)
 }
 
 // The pieces of a record node by node, then what comes back with nodes silent.
@@ -74,7 +74,7 @@ fn show<C: Code>(rt: &LibcRuntime, code: &str, record: &Record) -> Result<(), An
     };
     println!(
         rt,
-        "{code} silent {silent} survived {survived} of {choices}: {fields}"
+        "{code} with {silent} silent: {survived} of {choices} choices give back\t{fields}"
     )?;
     Ok(())
 }
@@ -94,9 +94,9 @@ fn answer(rt: &LibcRuntime, line: &[u8]) -> Result<(), AnyError> {
 }
 
 fn run(rt: &LibcRuntime) -> Result<(), AnyError> {
-    for line in BufReader::new(rt.stdin()).lines(rt.alloc()) {
+    for line in BufReader::new(rt.stdin()).split(rt.alloc(), b'\n') {
         let line = line?;
-        answer(rt, line.as_bytes())?;
+        answer(rt, line.as_slice())?;
     }
     Ok(())
 }
