@@ -1,3 +1,4 @@
+//! The record and its parts, whose types hold their ranges.
 ghost use mathlib.Core.Path.{_≡_};
 ghost use mathlib.Core.Bool.{true};
 ghost use lib.IntN.{pos, negsuc};

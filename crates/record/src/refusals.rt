@@ -1,3 +1,4 @@
+//! Why something is no record.
 ghost use mathlib.Core.Path.{_≡_};
 ghost use Rattle.record.specs.Refusals.{refusal};
 

@@ -1,3 +1,4 @@
+//! Units, by code and by letter.
 ghost use mathlib.Core.Path.{_≡_};
 ghost use Rattle.record.specs.Units.{code-of, letter-of, unit-at, unit-of};
 

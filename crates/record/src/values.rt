@@ -1,3 +1,4 @@
+//! When two records are the same.
 ghost use mathlib.Core.Path.{_≡_};
 ghost use Prim.Native.Nat.{_^_, _≤_};
 ghost use Rattle.record.specs.Values.{Equivalence, equal, same, scaled};
