@@ -12,4 +12,4 @@ pub use copies::CopiesCode;
 pub use copies::OneSpare;
 pub use copies::TwoSpares;
 pub use interface::Code;
-pub use interface::enough;
+pub use interface::pieces_are_enough;
