@@ -149,7 +149,7 @@ rewritten x y h b m =
 
 -- ---- record, bytes, record
 
-name-long : (r : Record) → length (r .name .bytes) ≡ 16
+pub name-long : (r : Record) → length (r .name .bytes) ≡ 16
 name-long r = eqb-true _ _ (and-parts (eqb (length (r .name .bytes)) 16) (printable (r .name .bytes)) (r .name .readable) .0)
 
 name-part : (a b : List ℕ) → length a ≡ 16 → take 16 (a ++ b) ≡ a

@@ -18,6 +18,7 @@ use std::alloc::Global;
 use std::error::AnyError;
 use std::io::BufRead;
 use std::io::BufReader;
+use trials::Survival;
 
 // The record of a line, or its refusal: what is not 48 hex digits is not 24 bytes.
 fn record_of(line: &[u8]) -> Result<Record, RecordError> {
@@ -55,28 +56,42 @@ fn fields_of(heap: Global, record: &Record) -> Result<String, AnyError> {
     Ok(format!(heap, "{parameter}\t{letter}\t{exponent}\t{name}\t{number}")?)
 }
 
-// The pieces of a record node by node, then what comes back with nodes silent.
-fn show<C: Code>(rt: &LibcRuntime, code: &str, record: &Record) -> Result<(), AnyError> {
-    let heap = rt.alloc();
-    let whole = record.to_bytes();
-    let pieces = trials::pieces_of::<C>(heap, &whole)?;
+// A line for each node, with its piece.
+fn show_pieces(rt: &LibcRuntime, code: &str, pieces: &[Vec<u8>]) -> Result<(), AnyError> {
     for (node, piece) in pieces.iter().enumerate() {
-        let digits = hex::digits(heap, piece.as_slice())?;
+        let digits = hex::digits(rt.alloc(), piece.as_slice())?;
         println!(rt, "{code} node {node} {digits}")?;
     }
-    let result = trials::silence_all::<C>(heap, pieces.as_slice(), &whole)?;
-    let silent = C::silent();
-    let survived = result.survived;
-    let choices = result.choices;
-    let fields = match Record::from_bytes(&result.rebuilt) {
-        Ok(rebuilt) => fields_of(heap, &rebuilt)?,
-        Err(e) => format!(heap, "NO {}", e.number())?,
+    Ok(())
+}
+
+// From how many choices of silent nodes a record came back, and what came back.
+fn show_survival(
+    rt: &LibcRuntime,
+    code: &str,
+    silent: usize,
+    all: Survival,
+) -> Result<(), AnyError> {
+    let survived = all.survived;
+    let choices = all.choices;
+    let fields = match Record::from_bytes(&all.rebuilt) {
+        Ok(rebuilt) => fields_of(rt.alloc(), &rebuilt)?,
+        Err(_) => String::new(rt.alloc()),
     };
     println!(
         rt,
         "{code} with {silent} silent: {survived} of {choices} choices give back\t{fields}"
     )?;
     Ok(())
+}
+
+// Spreads a record, and silences as many nodes as the code bears.
+fn show<C: Code>(rt: &LibcRuntime, code: &str, record: &Record) -> Result<(), AnyError> {
+    let whole = record.to_bytes();
+    let pieces = trials::pieces_of::<C>(rt.alloc(), &whole)?;
+    show_pieces(rt, code, pieces.as_slice())?;
+    let all = trials::silence_all::<C>(rt.alloc(), pieces.as_slice(), &whole)?;
+    show_survival(rt, code, C::silent(), all)
 }
 
 fn answer(rt: &LibcRuntime, line: &[u8]) -> Result<(), AnyError> {

@@ -7,7 +7,6 @@ ghost use Rattle.std.specs.Vec.{made};
 ghost use Rattle.code.specs.Bytes.{Bytes};
 ghost use Rattle.spread.specs.Trials.{Picked, Spread};
 use code::Code;
-use code::CodeError;
 use code::Piece;
 use std::alloc::Global;
 use std::error::AnyError;
@@ -23,10 +22,8 @@ pub(crate) struct Survival {
     pub rebuilt: [u8; 24],
 }
 
-// A refusal of a code, as an error of the program.
-fn told(heap: Global, e: CodeError) -> Result<AnyError, AnyError> {
-    Ok(format!(heap, "NO {}", e.number())?.into())
-}
+// A code refuses neither the pieces that it made nor places of the right size.
+const REFUSED: &str = "a code refused its own piece";
 
 // The piece of one node.
 fn piece_of<C: Code>(heap: Global, whole: &[u8], node: usize) -> Result<Vec<u8>, AnyError>
@@ -35,7 +32,7 @@ fn piece_of<C: Code>(heap: Global, whole: &[u8], node: usize) -> Result<Vec<u8>,
     let mut piece = vec![in heap; 0u8; C::width()]?;
     match C::make(whole, (node % 256) as u8, piece.as_mut_slice()) {
         Ok(()) => Ok(piece),
-        Err(e) => Err(told(heap, e)?),
+        Err(_) => Err(REFUSED.into()),
     }
 }
 
@@ -78,7 +75,7 @@ fn rebuild<C: Code>(heap: Global, pieces: &[Vec<u8>], silent: u32) -> Result<[u8
     let mut whole = [0; 24];
     match C::join(picked.as_slice(), &mut whole) {
         Ok(()) => Ok(whole),
-        Err(e) => Err(told(heap, e)?),
+        Err(_) => Err(REFUSED.into()),
     }
 }
 

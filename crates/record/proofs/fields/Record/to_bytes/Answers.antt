@@ -4,11 +4,10 @@ use Prim.Native.Nat.{ℕ}
 use lib.ListN.{length, getD}
 use mir.Syntax.{w32}
 use mir.Val.{ofZ}
-use borrow.Author.Needs.{needs}
 use Rattle.std.proofs.shelf.Counted.{fill-by-all}
 use Rattle.std.proofs.shelf.Signed.{toZ-ofZ}
 use Rattle.record.specs.Layout.{layout, four-bytes, listed}
-use Rattle.record.proofs.Whole.{number-width}
+use Rattle.record.proofs.Whole.{name-long, number-width}
 use Rattle.record.proofs.fields.Record.to_bytes.Needs as need
 
 -- a list is its elements
@@ -20,6 +19,7 @@ unfolding layout
 returns c =
     let r = c .args .self .now in
     c .one-after-the-other .ensures
-    ∙ ap₂ (λ a b. a ++ b) (all-listed 4 _ (search needs) ∙ c .head .ensures)
-    (ap₂ (λ a b. a ++ b) (all-listed 16 _ (search needs))
-    (all-listed 4 _ (search needs) ∙ c .to-be-bytes-number .ensures ∙ ap (λ z. four-bytes (ofZ w32 z)) (toZ-ofZ w32 _ (number-width (r .number)))))
+    ∙ ap₂ (λ a b. a ++ b) (all-listed 4 _ (ap length (c .head .ensures)) ∙ c .head .ensures)
+    (ap₂ (λ a b. a ++ b) (all-listed 16 _ (name-long r))
+    (all-listed 4 _ (ap length (c .to-be-bytes-number .ensures))
+    ∙ c .to-be-bytes-number .ensures ∙ ap (λ z. four-bytes (ofZ w32 z)) (toZ-ofZ w32 _ (number-width (r .number)))))
