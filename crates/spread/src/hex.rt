@@ -1,12 +1,15 @@
 //! Bytes as hex digits.
 ghost use mathlib.Core.Path.{_≡_};
-ghost use Rattle.spread.specs.Hex.{digit-of};
+ghost use Prim.Native.Nat.{_<_};
+ghost use Rattle.std.specs.Slices.{found};
+ghost use Rattle.spread.specs.Hex.{Read, byte-of, digit-of};
 use std::alloc::Global;
 use std::error::AnyError;
 
 // The value of a hex digit.
 fn digit(b: u8) -> Option<u8>
-    ensures { λ r. ⌜ r ≡ digit-of b ⌝ }
+    ensures value { λ r. ⌜ r ≡ digit-of b ⌝ }
+    ensures small { λ r. ⌜ found r (λ d. d < 16) ⌝ }
 {
     match b {
         b'0'..=b'9' => Some(b - b'0'),
@@ -16,16 +19,25 @@ fn digit(b: u8) -> Option<u8>
     }
 }
 
+// The byte of two hex digits.
+fn byte(high: u8, low: u8) -> Option<u8>
+    ensures { λ r. ⌜ r ≡ byte-of (digit-of high) (digit-of low) ⌝ }
+{
+    let high = digit(high)?;
+    let low = digit(low)?;
+    Some(high * 16 + low)
+}
+
 /// The 24 bytes of 48 hex digits.
-pub(crate) fn bytes_of(line: &[u8]) -> Option<[u8; 24]> {
+pub(crate) fn bytes_of(line: &[u8]) -> Option<[u8; 24]>
+    ensures { λ r. ⌜ Read (now (line .entry)) r ⌝ }
+{
     if line.len() != 48 {
         return None;
     }
     let mut bytes = [0; 24];
     for i in 0..24usize {
-        let high = digit(line[2 * i])?;
-        let low = digit(line[2 * i + 1])?;
-        bytes[i] = high * 16 + low;
+        bytes[i] = byte(line[2 * i], line[2 * i + 1])?;
     }
     Some(bytes)
 }
