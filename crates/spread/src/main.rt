@@ -12,6 +12,9 @@ use code::Code;
 use code::CopiesCode;
 use code::OneSpare;
 use code::TwoSpares;
+use parity::DoubleParityFactors;
+use parity::FactorCode;
+use parity::P6;
 use record::Record;
 use record::RecordError;
 use std::alloc::Global;
@@ -19,6 +22,8 @@ use std::error::AnyError;
 use std::io::BufRead;
 use std::io::BufReader;
 use trials::Survival;
+use whiten::W6;
+use whiten::WhitenedCode;
 
 // The record of a line, or its refusal: what is not 48 hex digits is not 24 bytes.
 fn record_of(line: &[u8]) -> Result<Record, RecordError> {
@@ -99,7 +104,9 @@ fn answer(rt: &LibcRuntime, line: &[u8]) -> Result<(), AnyError> {
         Ok(record) => {
             println!(rt, "{}", fields_of(rt.alloc(), &record)?)?;
             show::<C3>(rt, "C3", &record)?;
-            show::<C5>(rt, "C5", &record)
+            show::<C5>(rt, "C5", &record)?;
+            show::<P6>(rt, "P6", &record)?;
+            show::<W6>(rt, "W6", &record)
         }
         Err(e) => {
             println!(rt, "NO {}", e.number())?;

@@ -1,0 +1,4 @@
+pub mod Tested
+pub mod Linear
+pub mod Proved
+pub mod Lanes

@@ -1,0 +1,4 @@
+pub mod Tested
+pub mod Polynomials
+pub mod Laws
+pub mod Matrix
