@@ -1,0 +1,9 @@
+pub mod Tables
+pub mod Stamps
+pub mod Nodes
+pub mod Reading
+pub mod Machine
+pub mod History
+pub mod Promises
+pub mod Progress
+pub mod Example
