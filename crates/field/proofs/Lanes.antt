@@ -1,13 +1,13 @@
 -- Eight bytes at once: what a word's arithmetic does to each of its bytes.
 use mathlib.Core.Path.{_≡_, refl, sym, ap, ap₂, _∙_}
-use Prim.Native.Nat.{ℕ, zero, suc, _+_, _-_, _*_, _/_, _%_, _^_, _<_, _≤_}
+use Prim.Native.Nat.{ℕ, zero, suc, _+_, _-_, _*_, _/_, _%_, _^_, _<_}
 use native.Mathlib.Nat.{div-one, zero-mul, one-mul, zero-div, div-eq-of-lt, le-of-suc-le-suc, not-suc-le-zero}
 use native.Mathlib.Omega.{arith}
 use lib.Bits.{bitAnd, bitXor, and-block, and-mask, xor-block, xor-shr, xor-mod, xor-zero-r}
 use Rattle.std.proofs.shelf.Bits.{shr-shr}
 use Rattle.field.specs.Polynomials.{sum, coefficient, twice, times-low, times, dot, byte}
 use Rattle.field.proofs.Tested.{same-below}
-use Rattle.field.proofs.Linear.{Linear, after, plus, low, of-zero, xor-swap}
+use Rattle.field.proofs.Linear.{Linear, after, low, of-zero, xor-swap}
 use Rattle.field.proofs.Proved.{twice-linear, times-low-linear-l, twice-byte, horner, horner-ends}
 
 -- what holds at the first four places

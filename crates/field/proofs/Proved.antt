@@ -1,14 +1,14 @@
 -- Bytes are a field.
-use mathlib.Core.Path.{_≡_, refl, sym, ap, ap₂, _∙_}
+use mathlib.Core.Path.{_≡_, refl, sym, ap, _∙_}
 use mathlib.Core.Bool.{Bool}
 use Prim.Native.Nat.{ℕ, zero, suc, _+_, _-_, _*_, _/_, _%_, _^_, _<_, _≤_}
 use native.Mathlib.Nat.{div-one, zero-mul, one-mul, le-of-suc-le-suc, not-suc-le-zero}
 use native.Mathlib.Omega.{arith}
 use native.Mathlib.Numerals.{add-one}
-use lib.Dec.{T, eqb, eqb→eq, ltb, ltb→lt}
+use lib.Dec.{eqb, eqb→eq, ltb, ltb→lt}
 use lib.Bits.{bitXor, xor-shr, xor-lt}
 use Rattle.std.proofs.shelf.Bits.{shr-shr}
-use Rattle.field.specs.Polynomials.{sum, coefficient, unreduced, twice, times-low, times, square, squared, squares, inverse}
+use Rattle.field.specs.Polynomials.{sum, coefficient, unreduced, twice, times-low, times, squared, squares, inverse}
 use Rattle.field.specs.Laws.{Field-laws}
 use Rattle.field.specs.Tested.{below}
 use Rattle.field.proofs.Tested.{at, same-below}

@@ -1,7 +1,7 @@
 // The inverse of a matrix of four rows and columns, by its minors.
 ghost use mathlib.Core.Path.{_≡_};
 ghost use mathlib.Core.List.{[], _∷_};
-ghost use Prim.Native.Nat.{ℕ, _<_};
+ghost use Prim.Native.Nat.{_<_};
 ghost use Rattle.field.specs.Polynomials.{times, line};
 ghost use Rattle.field.specs.Matrix.{entry, skip, det2, det3, minor, det, inverted};
 use crate::inverse;

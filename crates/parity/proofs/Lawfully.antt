@@ -1,18 +1,17 @@
 -- A code by factors is lawful where the test of its factors passes.
-use mathlib.Core.Path.{_≡_, refl, sym, ap, ap₂, _∙_, subst}
+use mathlib.Core.Path.{_≡_, refl, sym, ap, _∙_}
 use mathlib.Core.Bool.{_&&_}
-use mathlib.Core.List.{List, [], _∷_, map}
-use Prim.Native.Nat.{ℕ, zero, suc, _+_, _*_, _/_, _%_, _<_, _≤_}
+use mathlib.Core.List.{List, [], map}
+use Prim.Native.Nat.{ℕ, _+_, _*_, _/_, _%_, _<_, _≤_}
 use native.Mathlib.Nat.{mod-lt, div-add-mod'}
 use native.Mathlib.Omega.{arith}
 use lib.Dec.{T, eqb, eqb→eq, leb, leb→le, ltb, ltb→lt}
 use lib.ListN.{length, getD, length-map}
-use Rattle.std.specs.Iters.{counting}
 use Rattle.std.proofs.shelf.Bits.{div-below}
 use Rattle.std.proofs.shelf.Counted.{getD-map-counting, fill-by-all}
 use Rattle.std.proofs.shelf.Lists.{ext-getD, getD-map}
 use Rattle.code.specs.Bytes.{Bytes}
-use Rattle.code.specs.Meaning.{Lawful, Chosen, Enough, Has, All-bytes, all-below, every}
+use Rattle.code.specs.Meaning.{Lawful, Chosen, All-bytes}
 use Rattle.field.specs.Polynomials.{dot}
 use Rattle.field.specs.Tested.{below}
 use Rattle.field.proofs.Tested.{left, right, at}

@@ -1,5 +1,5 @@
 -- Lists that are made place by place.
-use mathlib.Core.Path.{_≡_, refl, sym, ap, ap₂, _∙_, subst}
+use mathlib.Core.Path.{_≡_, refl, sym, ap₂, _∙_}
 use mathlib.Core.List.{List, [], _∷_, map}
 use Prim.Native.Nat.{ℕ, zero, suc, _+_, _*_, _/_, _%_, _<_}
 use native.Mathlib.Nat.{mod-lt, not-suc-le-zero, le-of-suc-le-suc}
@@ -16,7 +16,7 @@ use Rattle.code.proofs.Cuts.{cut-at}
 use Rattle.field.proofs.Tested.{left, right}
 use Rattle.field.specs.Polynomials.{dot}
 use Rattle.field.specs.Matrix.{entry}
-use Rattle.parity.specs.Rows.{six, row-byte, rows-of, listed, flat, combinations, solved}
+use Rattle.parity.specs.Rows.{row-byte, rows-of, listed, flat, combinations, solved}
 use Rattle.parity.proofs.Sums.{dot-same}
 
 pub map-four : {A : Type 0} (f : ℕ → A) (is : List ℕ) → length is ≡ 4 → map f is ≡ f (getD is 0 0) ∷ f (getD is 1 0) ∷ f (getD is 2 0) ∷ f (getD is 3 0) ∷ []

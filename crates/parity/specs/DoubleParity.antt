@@ -28,7 +28,8 @@ double-parity =
 abbrev pub rises : ℕ → ℕ → ℕ → ℕ → Bool
 rises a b c d = ltb a b && (ltb b c && (ltb c d && ltb d 6))
 
--- Where four rising numbers stand among all: so many choices are ruled out by each of them.
+-- The place of four rising numbers among all such choices. Before it come the choices of four below d, then of three below c,
+-- of two below b, and of one below a.
 abbrev pub rank : ℕ → ℕ → ℕ → ℕ → ℕ
 rank a b c d = a + getD (0 ∷ 0 ∷ 1 ∷ 3 ∷ 6 ∷ 10 ∷ []) b 0 + getD (0 ∷ 0 ∷ 0 ∷ 1 ∷ 4 ∷ 10 ∷ []) c 0 + getD (0 ∷ 0 ∷ 0 ∷ 0 ∷ 1 ∷ 5 ∷ []) d 0
 

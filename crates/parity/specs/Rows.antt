@@ -5,7 +5,6 @@ use lib.ListN.{length, getD}
 use Rattle.std.specs.Iters.{counting}
 use Rattle.code.specs.Meaning.{Meaning}
 use Rattle.field.specs.Polynomials.{dot}
-use Rattle.parity.specs.declared.rows.Row.{Row}
 use Rattle.parity.specs.declared.rows.Rows.{Rows}
 use Rattle.field.specs.Matrix.{entry, inverted}
 

@@ -18,14 +18,14 @@ static FACTORS: [[u8; 4]; 6] = [
     [1, 2, 4, 8],
 ];
 
-// How many choices a second, third and fourth number rule out: the numbers of pairs, triples and quadruples below each.
+// How many pairs, triples and quadruples of numbers there are below each number.
 static PAIRS: [usize; 6] = [0, 0, 1, 3, 6, 10];
 
 static TRIPLES: [usize; 6] = [0, 0, 0, 1, 4, 10];
 
 static QUADRUPLES: [usize; 6] = [0, 0, 0, 0, 1, 5];
 
-// The inverse of the factors of the four pieces of each rank.
+// The inverse of the factors of the four pieces of each rank, whose numbers stand beside it.
 static SOLUTIONS: [[[u8; 4]; 4]; 15] = [
     [[1, 0, 0, 0], [0, 1, 0, 0], [0, 0, 1, 0], [0, 0, 0, 1]], // 0, 1, 2, 3
     [[1, 0, 0, 0], [0, 1, 0, 0], [0, 0, 1, 0], [1, 1, 1, 1]], // 0, 1, 2, 4

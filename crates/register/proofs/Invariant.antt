@@ -118,17 +118,26 @@ module _ (C : Meaning) where
 
   -- A write of client d in its Look round.
   pub record WriteLook (B : Ops) (node : ℕ → Node) (mail : ℕ → Mail) (p d : ℕ) (r : Bytes) (got : ℕ → Bool) (ans : ℕ → Node) : Type 0 where
+    -- the history has this operation at its begin
     pub op : B p ≡ a-write d r unstamped
+    -- its Look round stands as it should
     pub looks : LookOk B node mail p got ans
+    -- no Store request of the client waits
     pub stores : NoStores mail
+    -- all other operations of the client have ended
     pub others : Others B p d
+    -- all earlier stamped writes of the client ended before this one began
     pub mine : Mine B p d
 
   -- A read of client d in a Look round.
   pub record ReadLook (B : Ops) (node : ℕ → Node) (mail : ℕ → Mail) (p d : ℕ) (got : ℕ → Bool) (ans : ℕ → Node) : Type 0 where
+    -- the history has this operation at its begin
     pub op : B p ≡ a-read d reading
+    -- its Look round stands as it should
     pub looks : LookOk B node mail p got ans
+    -- no Store request of the client waits
     pub stores : NoStores mail
+    -- all other operations of the client have ended
     pub others : Others B p d
 
   -- Node i keeps the write with the stamp s, or that is established already.
@@ -137,9 +146,11 @@ module _ (C : Meaning) where
 
   -- A write of client d in its Store round.
   pub record StoreOk (B : Ops) (node : ℕ → Node) (mail : ℕ → Mail) (p d : ℕ) (r : Bytes) (s F : Stamp) (got : ℕ → Bool) : Type 0 where
+    -- the history has this operation at its begin
     pub op : B p ≡ a-write d r (stamped-as s)
     -- F is the stamp of an established write, below s
     pub floor : A-floor B node F
+    -- F is below s
     pub less : Earlier F s
     -- what ended before the begin stands no later than F
     pub past : (q : ℕ) (s′ : Stamp) (e : ℕ) → Ended (B q) s′ e → e < p → No-later s′ F
@@ -148,22 +159,28 @@ module _ (C : Meaning) where
     pub mailed : (i : ℕ) → mail i ≡ answered stored → Stored node s i
     -- a Store request that waits is of this round
     pub asked : (i : ℕ) (s′ F′ : Stamp) (r′ : Bytes) → mail i ≡ waiting (storing s′ F′ r′) → (s′ ≡ s) × (F′ ≡ F) × (r′ ≡ r)
+    -- all other operations of the client have ended
     pub others : Others B p d
 
   -- A write of client d in its Settle round.
   pub record SettleOk (B : Ops) (node : ℕ → Node) (mail : ℕ → Mail) (p d : ℕ) (r : Bytes) (s : Stamp) (got : ℕ → Bool) : Type 0 where
+    -- the history has this operation at its begin
     pub op : B p ≡ a-write d r (stamped-as s)
     -- the floor of a node that answered is at s or above
     pub gathered : (i : ℕ) → got i ≡ true → No-later s (node i .floor)
     pub mailed : (i : ℕ) → mail i ≡ answered settled → No-later s (node i .floor)
     -- a Settle request that waits is of this round
     pub asked : (i : ℕ) (s′ : Stamp) → mail i ≡ waiting (settling s′) → s′ ≡ s
+    -- no Store request of the client waits
     pub stores : NoStores mail
+    -- all other operations of the client have ended
     pub others : Others B p d
 
   -- Client d has no open operation.
   pub record IdleOk (B : Ops) (mail : ℕ → Mail) (d : ℕ) : Type 0 where
+    -- no Store request of the client waits
     pub stores : NoStores mail
+    -- all operations of the client have ended
     pub quiet : Quiet B d
 
   -- What holds of client d, whose latest operation began at p.
@@ -231,6 +248,7 @@ module _ (C : Meaning) where
   pub record Frame (B B′ : Ops) (node node′ : ℕ → Node) (p d : ℕ) : Type 0 where
     pub later : (q : ℕ) → Later (B q) (B′ q)
     pub back : (q : ℕ) (s : Stamp) (e : ℕ) → Ended (B′ q) s e → e < p → Ended (B q) s e
+    -- the history has this operation at its begin
     pub op : by d (B p) ≡ true → B′ p ≡ B p
     pub own : (q : ℕ) → by d (B′ q) ≡ true → B′ q ≡ B q
     pub nodes : (i : ℕ) → Grown (node i) (node′ i)

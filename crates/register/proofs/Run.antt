@@ -1,13 +1,12 @@
 -- The worked calls, run by the definitions.
 use mathlib.Core.Path.{_≡_, refl}
 use mathlib.Core.Bool.{Bool, true, _&&_}
-use mathlib.Core.List.{List, [], _∷_, _++_}
+use mathlib.Core.List.{List, [], _∷_}
 use Prim.Native.Nat.{ℕ, zero, suc, _<_}
 use native.Mathlib.Omega.{arith}
 use lib.Dec.{ltb}
 use lib.ListN.{getD}
 use Rattle.std.proofs.shelf.Tests.{and-parts, ltb-true}
-use Rattle.std.specs.declared.result.Result.the-variants.{Ok}
 use Rattle.code.specs.Bytes as code
 use Rattle.code.proofs.Alike.{lawful}
 use Rattle.record.specs.Layout.{is-record}
@@ -15,10 +14,9 @@ use Rattle.register.specs.Tables.{tally}
 use Rattle.register.specs.Stamps.{below, same-stamp}
 use Rattle.register.specs.Nodes.{cleared, cut, raise, replace, put, store}
 use Rattle.register.specs.Reading.{shelf-piece, spare-piece, spare-record, node-piece, pieces, whole, shelf-stamps, spare-stamps, node-stamps, stamps, top-floor, list-count, top-count, record-under, highest, rebuild}
-use Rattle.register.specs.Machine.{laid-out, on-turn, off-turn, write-turn, read-turn, served, visit, fetch-turn, step, held}
-use Rattle.register.specs.History.{after, entries, a-read, a-write, gave, ended-as}
+use Rattle.register.specs.Machine.{laid-out, on-turn, off-turn, write-turn, read-turn, served, visit, fetch-turn, step}
 use Rattle.register.specs.Promises.{A-record}
-use Rattle.register.specs.Example.{first, second, three, laid, opening, middle, calls, answers, outcomes, past, Worked}
+use Rattle.register.specs.Example.{first, second, Worked}
 
 -- a list of small numbers has small ones at each place
 all-small : List ℕ → Bool
@@ -47,40 +45,17 @@ second-good : A-record (second .bytes)
 unfolding all-small
 second-good = record { sized = record { long = refl; small = small (second .bytes) refl }; lies = second-lies }
 
-told : outcomes (entries three laid calls) ≡ answers
-unfolding below same-stamp cleared cut raise replace put store tally shelf-piece spare-piece spare-record node-piece pieces whole shelf-stamps spare-stamps node-stamps stamps top-floor list-count top-count record-under highest rebuild laid-out on-turn off-turn write-turn read-turn served visit fetch-turn step is-record
-told = refl
-
-read : past .began 2 ≡ a-read 0 (gave first 6)
-unfolding below same-stamp cleared cut raise replace put store tally shelf-piece spare-piece spare-record node-piece pieces whole shelf-stamps spare-stamps node-stamps stamps top-floor list-count top-count record-under highest rebuild laid-out on-turn off-turn write-turn read-turn served visit fetch-turn step is-record
-read = refl
-
-written : past .began 7 ≡ a-write 0 (second .bytes) (ended-as (second .stamp) 20)
-unfolding below same-stamp cleared cut raise replace put store tally shelf-piece spare-piece spare-record node-piece pieces whole shelf-stamps spare-stamps node-stamps stamps top-floor list-count top-count record-under highest rebuild laid-out on-turn off-turn write-turn read-turn served visit fetch-turn step is-record
-written = refl
-
-both-held : held three 0 (after three laid opening) ≡ Ok 48
-unfolding below same-stamp cleared cut raise replace put store tally shelf-piece spare-piece spare-record node-piece pieces whole shelf-stamps spare-stamps node-stamps stamps top-floor list-count top-count record-under highest rebuild laid-out on-turn off-turn write-turn read-turn served visit fetch-turn step is-record
-both-held = refl
-
-one-held : held three 0 (after three laid (opening ++ middle)) ≡ Ok 24
-unfolding below same-stamp cleared cut raise replace put store tally shelf-piece spare-piece spare-record node-piece pieces whole shelf-stamps spare-stamps node-stamps stamps top-floor list-count top-count record-under highest rebuild laid-out on-turn off-turn write-turn read-turn served visit fetch-turn step is-record
-one-held = refl
-
-none-held : held three 1 (after three laid calls) ≡ Ok 0
-unfolding below same-stamp cleared cut raise replace put store tally shelf-piece spare-piece spare-record node-piece pieces whole shelf-stamps spare-stamps node-stamps stamps top-floor list-count top-count record-under highest rebuild laid-out on-turn off-turn write-turn read-turn served visit fetch-turn step is-record
-none-held = refl
-
 pub worked : Worked
+unfolding below same-stamp cleared cut raise replace put store tally shelf-piece spare-piece spare-record node-piece pieces whole shelf-stamps spare-stamps node-stamps stamps top-floor list-count top-count record-under highest rebuild laid-out on-turn off-turn write-turn read-turn served visit fetch-turn step is-record
 worked = record {
   lawful = lawful 1 (omega arith) (omega arith);
   accepted = refl;
   given = first-good;
   proper = (second-good, tt);
-  told = told;
-  read = read;
-  written = written;
-  both-held = both-held;
-  one-held = one-held;
-  none-held = none-held;
+  told = refl;
+  read = refl;
+  written = refl;
+  both-held = refl;
+  one-held = refl;
+  none-held = refl;
 }

@@ -1,4 +1,3 @@
-use Prim.Native.Nat.{_*_, _≤_}
 use native.Mathlib.Nat.{mul-le-mul-right, one-mul}
 use native.Mathlib.Omega.{arith}
 use Rattle.field.proofs.extended.Needs as need

@@ -1,7 +1,6 @@
 use mathlib.Core.Path.{_≡_, sym, ap, ap₂, _∙_}
 use native.Mathlib.Numerals.{add-one}
 use native.Mathlib.Omega.{arith}
-use Prim.Native.Nat.{ℕ}
 use Rattle.field.specs.Polynomials.{times, square, squared, squares, inverse}
 use Rattle.field.proofs.inverse.Needs as need
 

@@ -1,4 +1,4 @@
-use mathlib.Core.Path.{_≡_, ap, _∙_}
+use mathlib.Core.Path.{ap, _∙_}
 use lib.ListN.{take}
 use Rattle.code.proofs.Laws.{width-fits}
 use Rattle.whiten.proofs.Whitening.{masked-front}

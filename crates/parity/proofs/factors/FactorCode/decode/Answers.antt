@@ -1,14 +1,11 @@
 use mathlib.Core.Path.{_≡_, sym, ap, _∙_, subst}
-use mathlib.Core.List.{List, [], _∷_}
-use Prim.Native.Nat.{ℕ}
-use native.Mathlib.Omega.{arith}
-use borrow.Author.Needs.{needs}
+use mathlib.Core.List.{[], _∷_}
 use lib.Dec.{T}
 use lib.ListN.{length, getD, take}
 use Rattle.code.specs.Calls.{cut}
 use Rattle.code.specs.Meaning.{Chosen}
 use Rattle.field.specs.Matrix.{inverted, inverses}
-use Rattle.parity.specs.Rows.{chosen-rows, rows-of, listed, flat, combinations, solved}
+use Rattle.parity.specs.Rows.{chosen-rows, listed, flat, combinations, solved}
 use Rattle.parity.proofs.Lists.{flat-solved, take-four}
 use Rattle.parity.proofs.Lawfully.{factor-bytes, inverses-at, same-solution}
 use Rattle.parity.proofs.factors.FactorCode.decode.Needs as need
