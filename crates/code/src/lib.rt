@@ -1,4 +1,5 @@
 //! Codes that spread a record of 24 bytes over n nodes as n pieces: any k pieces give it back, so that f nodes may be silent.
+#![tactic(auto)]
 
 pub mod calls;
 pub mod copies;

@@ -1,4 +1,5 @@
 //! The public examples of the double parity, through the calls that its users make.
+#![tactic(auto)]
 
 #[cfg(test)]
 mod tests {

@@ -1,4 +1,6 @@
 //! Arithmetic in the field of 256 elements that the double parity of RAID 6 is computed in.
+#![tactic(auto)]
+
 ghost use Rattle.std.specs.Prelude.{◌≡◌, ℕ, ◌-◌, ◌*◌, ◌/◌, ◌^◌, ◌<◌, ◌≤◌, bit_and, bit_xor, slice_index};
 ghost use Rattle.field.specs.Polynomials.{sum, coefficient, twice, times, dot, line, square, inverse, byte};
 ghost use Rattle.field.specs.Laws.{FieldLaws};

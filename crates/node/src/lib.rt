@@ -3,6 +3,7 @@
 //! A node holds at most 48 bytes of records: a shelf of 24, cut into k places of w bytes for the code's k and w, and a spare of
 //! 24. Stamps and tags stand beside them. Nothing here uses a heap.
 //! What a node's memory means, and what each function makes of it, stands in `specs/Views.antt` and in the register's definitions.
+#![tactic(auto)]
 
 mod blocks;
 pub mod nodes;

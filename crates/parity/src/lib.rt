@@ -1,4 +1,5 @@
 //! Codes that spread a record by sums of its rows, among them the double parity of RAID 6.
+#![tactic(auto)]
 
 pub mod double_parity;
 pub mod factors;

@@ -8,6 +8,7 @@
 //! let setpoint = Record::new(7, 'b', -1, b"oven            ", 50)?; // 5.0 bar
 //! let bytes = setpoint.to_bytes();                                 // 24 bytes
 //! ```
+#![tactic(auto)]
 
 pub mod fields;
 pub mod layout;

@@ -2,6 +2,8 @@
 //!
 //! The definitions stand in `specs/`: stamps, nodes, what holdings rebuild, the calls, the history of a list of calls, the promises.
 //! The functions here give the numbers that rounds and reads go by, and their contracts say what rests on these numbers.
+#![tactic(auto)]
+
 ghost use Rattle.std.specs.Prelude.{◌≡◌, ◌-◌, ◌≤◌, length};
 ghost use Rattle.register.specs.Promises.{Safe, EveryCodeIsSafe, MeetsOnlyRecords};
 ghost use Rattle.register.specs.Progress.{Progress};

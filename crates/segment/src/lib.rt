@@ -4,6 +4,7 @@
 //! and their answers come back by `fetch`. What each call does is the step of that name in the register's definitions, and from
 //! what `lay_out` gives every list of calls keeps the register's promises.
 //! A segment lies in one struct of fixed size. Nothing here uses a heap.
+#![tactic(auto)]
 
 mod calls;
 pub mod entries;

@@ -2,6 +2,7 @@
 //! rebuilds the record from what the others hold.
 //!
 //! Standard input has one record a line, as 48 hex digits.
+#![tactic(auto)]
 
 mod hex;
 mod trials;

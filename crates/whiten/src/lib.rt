@@ -1,4 +1,6 @@
 //! Whitening over a code, for line drivers that need bits that change.
+#![tactic(auto)]
+
 ghost use Rattle.std.specs.Prelude.{◌≡◌, ℕ, ◌*◌, ◌<◌, ◌≤◌, take, bit_xor};
 ghost use Rattle.code.specs.Calls.{cut};
 ghost use Rattle.whiten.specs.Whitening.{mask, masked, all_masked, whitened};

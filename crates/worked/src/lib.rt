@@ -1,4 +1,6 @@
 //! Worked facts: numbers that a reader can check by hand, computed from the definitions that the contracts cite.
+#![tactic(auto)]
+
 ghost use Rattle.std.specs.Prelude.{◌≡◌, true, length};
 ghost use Rattle.code.specs.Meaning.{every};
 ghost use Rattle.worked.specs.Facts.{facts};
