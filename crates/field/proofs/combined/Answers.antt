@@ -10,9 +10,9 @@ loop-i-init c b h = dot_starts c.unused-i.result b (λ j. get_or c.args.factors 
 pub loop-i-preserved : goal.loop-i-preserved
 loop-i-preserved c b h =
     let i = c.loop-i.i in
-    ap (λ x. byte (bit_xor c.double-each.result x) b) (c.added.ensures ∙ ap (λ xs. sum 4 (λ j. get_or xs j 0)) c.taken.ensures)
-    ∙ lane i b (λ j. get_or c.args.factors j 0) (λ j. get_or c.args.words j 0) c.loop-i.total c.double-each.result (omega arith)
-    (c.double-each.ensures b h) (c.loop-i.invariant b h)
+    ap (λ x. byte (bit_xor c.double_each.result x) b) (c.added.ensures ∙ ap (λ xs. sum 4 (λ j. get_or xs j 0)) c.taken.ensures)
+    ∙ lane i b (λ j. get_or c.args.factors j 0) (λ j. get_or c.args.words j 0) c.loop-i.total c.double_each.result (omega arith)
+    (c.double_each.ensures b h) (c.loop-i.invariant b h)
 
 pub returns : goal.returns
 returns c b h =

@@ -9,4 +9,4 @@ returns c b h =
     let w = c.args.word in
     let le = and_le_r w 0x7f7f7f7f7f7f7f7f in
     let fits : bit_and w 0x7f7f7f7f7f7f7f7f * 2 < 18446744073709551616 = omega arith in
-    ap (λ x. byte x b) (ap₂ bit_xor (mod-eq_of_lt fits) c.overflow-each.ensures) ∙ doubled w b h
+    ap (λ x. byte x b) (ap₂ bit_xor (mod-eq_of_lt fits) c.overflow_each.ensures) ∙ doubled w b h

@@ -11,4 +11,4 @@ mask (suc zero) r w h hr e hw =
 mask (suc (suc u)) r w h hr e hw = absurd (not-suc-le-zero (le_of_suc-le-suc h))
 
 pub returns : goal.returns
-returns c = mask c.args.u c.wrapping-neg.result c.args.word c.requires c.wrapping-neg.type-inv c.wrapping-neg.ensures (omega arith)
+returns c = mask c.args.u c.wrapping_neg.result c.args.word c.requires c.wrapping_neg.type_inv c.wrapping_neg.ensures (omega arith)

@@ -2,8 +2,8 @@ use Rattle.std.proofs.Common.{◌-◌, ◌∙◌, ap₂, arith}
 use Rattle.register.proofs.Whole.{safe}
 use Rattle.register.proofs.quorum.Goals as goal
 
-pub all-but-requires : goal.all-but-requires
-all-but-requires g c =
+pub all_but-requires : goal.all_but-requires
+all_but-requires g c =
     let law = g.met.C.Code.lawful in
     let n = law.nodes in
     let e = c.silent.ensures in
@@ -12,6 +12,6 @@ all-but-requires g c =
 
 pub returns : goal.returns
 returns g c = record {
-  count = c.all-but.ensures ∙ ap₂ ◌-◌ c.nodes.ensures c.silent.ensures;
+  count = c.all_but.ensures ∙ ap₂ ◌-◌ c.nodes.ensures c.silent.ensures;
   safe = safe g.C.Code.meaning g.met.C.Code.lawful;
 }

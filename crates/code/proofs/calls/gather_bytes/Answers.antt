@@ -14,14 +14,14 @@ use Rattle.code.proofs.calls.gather_bytes.Goals as goal
 long_at : (w : ℕ) (ps : List Piece) (i : ℕ) → i < length ps → all_long w (contents_of ps) ≡ true → length (bytes_of (get_or ps i none)) ≡ w
 long_at w ps i h t = eqb-true (length (bytes_of (get_or ps i none))) w (every_one (λ p. eqb (length p) w) bytes_of ps i none h t)
 
-pub copy-from-slice-requires : goal.copy-from-slice-requires
-copy-from-slice-requires c =
+pub copy_from_slice-requires : goal.copy_from_slice-requires
+copy_from_slice-requires c =
     let ends = part_ends c.args.w c.loop-i.i (length c.args.pieces.now) c.loop-i-test.true in
     part_room c.args.w c.loop-i.all c.loop-i.i (omega (arith, c.requires.count))
     ∙ sym (long_at c.args.w c.args.pieces.now c.loop-i.i c.loop-i-test.true c.requires.sizes)
 
-pub slice-bounds-copy-from-slice-end : goal.slice-bounds-copy-from-slice-end
-slice-bounds-copy-from-slice-end c =
+pub slice_bounds-copy_from_slice-end : goal.slice_bounds-copy_from_slice-end
+slice_bounds-copy_from_slice-end c =
     let ends = part_ends c.args.w c.loop-i.i (length c.args.pieces.now) c.loop-i-test.true in
     omega (arith, c.requires.count)
 
@@ -30,16 +30,16 @@ loop-i-preserved c =
     let w = c.args.w in
     let i = c.loop-i.i in
     let x = c.loop-i.all in
-    let p = c.copy-from-slice.new.self in
+    let p = c.copy_from_slice.new.self in
     let ps = c.args.pieces.now in
     let ends = part_ends w i (length ps) c.loop-i-test.true in
     let inside : i * w ≤ length x = omega (arith, c.requires.count) in
-    let same : p ≡ bytes_of (get_or ps i none) = c.copy-from-slice.ensures.after in
+    let same : p ≡ bytes_of (get_or ps i none) = c.copy_from_slice.ensures.after in
     let size : length p ≡ w = ap length same ∙ long_at w ps i c.loop-i-test.true c.requires.sizes in (
       below_more _ _
           (λ m h. part_before w x p (i * w + w - i * w) m i h inside ∙ c.loop-i.invariant.0 m h)
           (part_here w x p (i * w + w - i * w) i size inside ∙ same),
-      λ j. (c.type-inv.all j).fits,
+      λ j. (c.type_inv.all j).fits,
     )
 
 pub returns : goal.returns

@@ -6,11 +6,11 @@ use Rattle.code.proofs.calls.in_order.Goals as goal
 
 pub loop-i-preserved : goal.loop-i-preserved
 loop-i-preserved c =
-    rising_more number_of c.args.pieces.now c.loop-i.i none (omega arith) c.loop-i-test.true c.if-not-is-above.ensures c.loop-i.invariant
+    rising_more number_of c.args.pieces.now c.loop-i.i none (omega arith) c.loop-i-test.true c.if-not-is_above.ensures c.loop-i.invariant
 
-pub returns-then-not-is-above : goal.returns-then-not-is-above
-returns-then-not-is-above c =
-    rising_fails number_of c.args.pieces.now c.loop-i.i none (omega arith) c.loop-i-test.true c.if-not-is-above.ensures c.loop-i.invariant
+pub returns-then-not-is_above : goal.returns-then-not-is_above
+returns-then-not-is_above c =
+    rising_fails number_of c.args.pieces.now c.loop-i.i none (omega arith) c.loop-i-test.true c.if-not-is_above.ensures c.loop-i.invariant
 
 pub returns : goal.returns
 returns c = rising_all number_of c.args.pieces.now c.loop-i.i none (omega arith) c.loop-i-test.false c.loop-i.invariant

@@ -9,11 +9,11 @@ test w p = eqb (length p) w
 
 pub loop-p-preserved : goal.loop-p-preserved
 loop-p-preserved c =
-    every_more (test c.args.w) bytes_of c.args.pieces.now c.loop-p.p-index none c.loop-p-test.true c.if-not-is-long.ensures c.loop-p.invariant
+    every_more (test c.args.w) bytes_of c.args.pieces.now c.loop-p.p-index none c.loop-p-test.true c.if-not-is_long.ensures c.loop-p.invariant
 
-pub returns-then-not-is-long : goal.returns-then-not-is-long
-returns-then-not-is-long c =
-    every_fails (test c.args.w) bytes_of c.args.pieces.now c.loop-p.p-index none c.loop-p-test.true c.if-not-is-long.ensures c.loop-p.invariant
+pub returns-then-not-is_long : goal.returns-then-not-is_long
+returns-then-not-is_long c =
+    every_fails (test c.args.w) bytes_of c.args.pieces.now c.loop-p.p-index none c.loop-p-test.true c.if-not-is_long.ensures c.loop-p.invariant
 
 pub returns : goal.returns
 returns c = every_all (test c.args.w) bytes_of c.args.pieces.now c.loop-p.p-index none c.loop-p-test.false c.loop-p.invariant

@@ -12,5 +12,5 @@ returns c =
     let m = c.args.m in
     let row : ℕ → List ℕ = λ r. line (λ j. times (minor m j r) c.inverse-scale.result) in
     four _ _ _ _ (row 0) (row 1) (row 2) (row 3)
-    c.inverse-row.ensures c.inverse-row-2.ensures c.inverse-row-3.ensures c.inverse-row-4.ensures
+    c.inverse_row.ensures c.inverse_row-2.ensures c.inverse_row-3.ensures c.inverse_row-4.ensures
     ∙ ap (λ scale. grid (λ r j. times (minor m j r) scale)) (c.inverse-scale.ensures ∙ ap inverse c.det.ensures)

@@ -7,14 +7,14 @@ pub loop-b-preserved : goal.loop-b-preserved
 loop-b-preserved c =
     let xs = c.args.bytes.now in
     let i = c.loop-b.b-index in
-    ap (λ t. t && printable (drop (i + 1) xs)) c.if-not-is-printable.ensures
+    ap (λ t. t && printable (drop (i + 1) xs)) c.if-not-is_printable.ensures
     ∙ sym (at_drop_more printable xs i 0 c.loop-b-test.true) ∙ c.loop-b.invariant
 
-pub returns-then-not-is-printable : goal.returns-then-not-is-printable
-returns-then-not-is-printable c =
+pub returns-then-not-is_printable : goal.returns-then-not-is_printable
+returns-then-not-is_printable c =
     let xs = c.args.bytes.now in
     let i = c.loop-b.b-index in
-    ap (λ t. t && printable (drop (i + 1) xs)) c.if-not-is-printable.ensures
+    ap (λ t. t && printable (drop (i + 1) xs)) c.if-not-is_printable.ensures
     ∙ sym (at_drop_more printable xs i 0 c.loop-b-test.true) ∙ c.loop-b.invariant
 
 pub returns : goal.returns

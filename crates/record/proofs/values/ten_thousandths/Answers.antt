@@ -11,16 +11,16 @@ widened z p f h =
     let g : SFits w64 z = record { sfits = omega arith } in
     ap₂ (λ a b. a *ℤ b) (ap (λ v. to_z w64 (of_z w64 v)) (to_z-of_z w32 z f) ∙ to_z-of_z w64 z g) (to_z_pos w64 p (omega arith))
 
-pub overflow-mul-result : goal.overflow-mul-result
-overflow-mul-result c =
+pub overflow_mul-result : goal.overflow_mul-result
+overflow_mul-result c =
     let x = c.args.number in
-    let p = c.raised-power.result in
-    subst (SFits w64) (sym (widened x.value p (number_width x) c.raised-power.type-inv)) (product_fits x.value p x.low x.high c.raised-power.ensures.bound)
+    let p = c.raised_power.result in
+    subst (SFits w64) (sym (widened x.value p (number_width x) c.raised_power.type_inv)) (product_fits x.value p x.low x.high c.raised_power.ensures.bound)
 
 pub returns : goal.returns
 returns c =
     let x = c.args.number in
-    let p = c.raised-power.result in
-    ap (λ v. to_z w64 (of_z w64 v)) (widened x.value p (number_width x) c.raised-power.type-inv)
-    ∙ to_z-of_z w64 _ (product_fits x.value p x.low x.high c.raised-power.ensures.bound)
-    ∙ ap (λ v. x.value *ℤ pos v) c.raised-power.ensures.value
+    let p = c.raised_power.result in
+    ap (λ v. to_z w64 (of_z w64 v)) (widened x.value p (number_width x) c.raised_power.type_inv)
+    ∙ to_z-of_z w64 _ (product_fits x.value p x.low x.high c.raised_power.ensures.bound)
+    ∙ ap (λ v. x.value *ℤ pos v) c.raised_power.ensures.value

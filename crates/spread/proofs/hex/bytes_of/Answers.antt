@@ -5,11 +5,11 @@ pub loop-i-preserved : goal.loop-i-preserved
 loop-i-preserved c =
     let i = c.loop-i.i in
     let bytes = c.loop-i.bytes in
-    let b = c.in-ok-bytes.field-0 in
+    let b = c.in_ok-bytes.field-0 in
     let long = c.loop-i.invariant.0 in
     let at : i < length bytes = omega arith in (
       simp length-set long,
       below_more _ i
           (λ k h. let other : k ≢ i = omega arith in c.loop-i.invariant.1 k h ∙ ap Some (sym (get_or-set_other bytes i k b 0 other)))
-          (sym c.in-ok-bytes.ensures ∙ ap Some (sym (get_or-set_same bytes i b 0 at))),
+          (sym c.in_ok-bytes.ensures ∙ ap Some (sym (get_or-set_same bytes i b 0 at))),
     )

@@ -12,9 +12,9 @@ loop-node-preserved g c x s =
     let P : List Piece → Type 0 = λ l. contents_of l ≡ map (m.piece x) (numbers_of l) in
     elim c.if-silent-node-eq0.branch [
       | then-silent-node-eq0+then-len-needed+in-ok-push w ↦
-          subst P (sym (ap vec_items w.picked-is ∙ w.in-ok-push.ensures.items))
+          subst P (sym (ap vec_items w.picked-is ∙ w.in_ok-push.ensures.items))
           (one_more m lawful x _ _ (c.loop-node.invariant x s)
-          (w.as-slice.ensures.value
+          (w.as_slice.ensures.value
           ∙ node_holds m lawful x c.args.pieces.now s c.loop-node.node c.index-pieces-node.result c.loop-node-test.true c.index-pieces-node.is))
       | else-silent-node-eq0 w ↦ subst P (sym (ap vec_items w.picked-is)) (c.loop-node.invariant x s)
     ]

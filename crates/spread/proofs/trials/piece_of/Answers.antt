@@ -7,9 +7,9 @@ use Rattle.spread.proofs.trials.piece_of.Goals as goal
 pub returns-in-Ok : goal.returns-in-Ok
 returns-in-Ok g c =
     let place = c.make.new.place in
-    let len = c.in-ok-piece.piece.len in
-    let long : length place ≡ len = c.make.auto.place ∙ c.as-mut-slice.ensures.len in
-    take-append-le len place (drop (length place) c.in-ok-piece.piece.items) (omega arith)
+    let len = c.in_ok-piece.piece.len in
+    let long : length place ≡ len = c.make.auto.place ∙ c.as_mut_slice.ensures.len in
+    take-append-le len place (drop (length place) c.in_ok-piece.piece.items) (omega arith)
     ∙ take_all len place (omega arith)
     ∙ c.make.ensures.writes
-    ∙ ap (λ o. written o (g.C.Code.meaning.piece c.args.whole.now (c.args.node % 256)) c.as-mut-slice.result.now) (sym c.in-Ok.ensures.refuses)
+    ∙ ap (λ o. written o (g.C.Code.meaning.piece c.args.whole.now (c.args.node % 256)) c.as_mut_slice.result.now) (sym c.in-Ok.ensures.refuses)

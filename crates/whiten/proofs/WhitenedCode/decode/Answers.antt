@@ -5,8 +5,8 @@ use Rattle.whiten.specs.Whitening.{all_masked}
 use Rattle.whiten.specs.WhiteningLemmas.{width_least}
 use Rattle.whiten.proofs.WhitenedCode.decode.Goals as goal
 
-pub all-masked-requires : goal.all-masked-requires
-all-masked-requires g c =
+pub all_masked-requires : goal.all_masked-requires
+all_masked-requires g c =
     let law = g.met.C.Code.lawful in
     subst (λ (w : ℕ). (3 ≤ w) × (w ≤ 24)) (sym c.width.ensures) (width_least g.C.Code.meaning law, width_fits g.C.Code.meaning law)
 

@@ -5,13 +5,13 @@ use Rattle.code.proofs.Laws.{joined_only}
 use Rattle.code.proofs.Joins.{all_sized, few_pieces, all_places, joinable, carried_out, decoded}
 use Rattle.code.proofs.interface.Code.join.Goals as goal
 
-pub gather-numbers-requires : goal.gather-numbers-requires
-gather-numbers-requires g c =
+pub gather_numbers-requires : goal.gather_numbers-requires
+gather_numbers-requires g c =
     few_pieces g.Self.Code.meaning g.met.Self.Code.lawful c.args.pieces.now (length c.args.place.now)
     c.needed.result c.width-w.result c.needed.ensures c.width-w.ensures c.if-not-fits.ensures
 
-pub gather-bytes-requires : goal.gather-bytes-requires
-gather-bytes-requires g c =
+pub gather_bytes-requires : goal.gather_bytes-requires
+gather_bytes-requires g c =
     let m = g.Self.Code.meaning in
     let law = g.met.Self.Code.lawful in
     let xs = c.args.pieces.now in
@@ -39,13 +39,13 @@ returns g c =
     let n_is = c.nodes.ensures in
     let fits = c.if-not-fits.ensures in
     let known = c.if-not-known.ensures in
-    let order = c.if-not-in-order.ensures in
-    let stored : c.copy-from-slice.new.self ≡ m.join is ps =
-    c.copy-from-slice.ensures.after
-    ∙ decoded m law xs room k w k_is w_is fits n n_is known order c.gather-numbers.result c.gather-bytes.new.all
-    c.decode-whole.result c.gather-numbers.ensures c.gather-bytes.ensures.parts c.decode-whole.ensures in
+    let order = c.if-not-in_order.ensures in
+    let stored : c.copy_from_slice.new.self ≡ m.join is ps =
+    c.copy_from_slice.ensures.after
+    ∙ decoded m law xs room k w k_is w_is fits n n_is known order c.gather_numbers.result c.gather_bytes.new.all
+    c.decode-whole.result c.gather_numbers.ensures c.gather_bytes.ensures.parts c.decode-whole.ensures in
     let free = carried_out m law xs room k w k_is w_is fits n n_is known order in
-    let enough = joinable m law xs room k w k_is w_is fits n n_is known order c.gather-bytes.ensures.bytes in
+    let enough = joinable m law xs room k w k_is w_is fits n n_is known order c.gather_bytes.ensures.bytes in
     record {
       refuses = free;
       writes = stored ∙ ap (λ r. written r (m.join is ps) c.args.place.now) free;

@@ -12,8 +12,8 @@ adds_up g c =
     let long = length_shelf g.C.Code.meaning c.args.self.now.shelf in
     ap₂ ◌+◌ (ap₂ ◌*◌ (c.used.ensures ∙ sym long) c.width.ensures) c.held.ensures
 
-pub overflow-add-result : goal.overflow-add-result
-overflow-add-result g c =
+pub overflow_add-result : goal.overflow_add-result
+overflow_add-result g c =
     let m = g.C.Code.meaning in
     let a = node m c.args.self.now in
     let long = length_shelf m c.args.self.now.shelf in

@@ -3,10 +3,10 @@ use Rattle.std.proofs.lemmas.Bool.Decides.{nat_tests}
 use Rattle.register.specs.Nodes.{raise}
 use Rattle.node.proofs.nodes.Node.raise.Goals as goal
 
-pub returns-then-is-under : goal.returns-then-is-under
+pub returns-then-is_under : goal.returns-then-is_under
 unfolding raise
-returns-then-is-under g c = search (rules, nat_tests)
+returns-then-is_under g c = search (rules, nat_tests)
 
-pub returns-else-is-under : goal.returns-else-is-under
+pub returns-else-is_under : goal.returns-else-is_under
 unfolding raise
-returns-else-is-under g c = search (rules, nat_tests)
+returns-else-is_under g c = search (rules, nat_tests)

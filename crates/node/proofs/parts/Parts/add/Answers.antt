@@ -16,13 +16,13 @@ returns-in-Some g c =
     let found = c.in-Some.ensures.piece in
     search rules
 
-pub returns-in-default : goal.returns-in-default
-returns-in-default g c =
+pub returns-in_default : goal.returns-in_default
+returns-in_default g c =
     let m = g.C.Code.meaning in
     let ps = parts m c.args.self.now in
     let long = length_parts m c.args.self.now in
     let fits = one_fits m.k ps c.args.i (node_piece (stamp c.args.stamp) (node m c.args.node.now)) (omega arith) in
-    let found = c.in-default.ensures.piece in
+    let found = c.in_default.ensures.piece in
     let same = append-nil ps in
     search rules
 

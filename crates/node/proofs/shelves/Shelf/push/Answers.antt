@@ -12,6 +12,6 @@ returns g c =
     let s = c.args.self.now in
     record {
       counted = search rules;
-      longer = listed_more (λ t b. record { stamp = stamp t; bytes = b }) s.stamps no_stamp (part m.w s.bytes) (part m.w c.put-part.new.block)
+      longer = listed_more (λ t b. record { stamp = stamp t; bytes = b }) s.stamps no_stamp (part m.w s.bytes) (part m.w c.put_part.new.block)
           s.count m.k c.args.stamp c.args.piece.now c.requires.0 (omega arith) (search rules);
     }

@@ -3,14 +3,14 @@ use Rattle.std.proofs.lemmas.Bool.Decides.{nat_tests}
 use Rattle.register.specs.Nodes.{cut}
 use Rattle.node.proofs.spares.Spare.cut.Goals as goal
 
-pub returns-then-is-below : goal.returns-then-is-below
+pub returns-then-is_below : goal.returns-then-is_below
 unfolding cut
-returns-then-is-below g c = search (rules, nat_tests)
+returns-then-is_below g c = search (rules, nat_tests)
 
-pub returns-then-has-record : goal.returns-then-has-record
+pub returns-then-has_record : goal.returns-then-has_record
 unfolding cut
-returns-then-has-record g c = search (rules, nat_tests)
+returns-then-has_record g c = search (rules, nat_tests)
 
-pub returns-else-has-record : goal.returns-else-has-record
+pub returns-else-has_record : goal.returns-else-has_record
 unfolding cut
-returns-else-has-record g c = search (rules, nat_tests)
+returns-else-has_record g c = search (rules, nat_tests)

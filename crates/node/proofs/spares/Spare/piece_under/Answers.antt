@@ -20,6 +20,6 @@ pub returns-in-Whole : goal.returns-in-Whole
 unfolding spare_piece
 returns-in-Whole g c = search (rules, nat_tests)
 
-pub slice-bounds-result-end : goal.slice-bounds-result-end
-slice-bounds-result-end g c =
+pub slice_bounds-result-end : goal.slice_bounds-result-end
+slice_bounds-result-end g c =
     let fits = part_fits g.C.Code.meaning g.met.C.Code.lawful 0 g.met.C.Code.lawful.needed in omega arith

@@ -16,9 +16,9 @@ table is h = chosen_passes 6 (λ js. inverses (chosen_rows double_parity js) (ge
 chosen_rise : (is : List ℕ) → Chosen 4 6 is → T (rises (get_or is 0 0) (get_or is 1 0) (get_or is 2 0) (get_or is 3 0))
 chosen_rise is h = chosen_passes 6 (λ js. rises (get_or js 0 0) (get_or js 1 0) (get_or js 2 0) (get_or js 3 0)) tt is h
 
-pub returns-then-are-rising : goal.returns-then-are-rising
-returns-then-are-rising c h =
-    subst (λ s. T (inverses (chosen_rows double_parity c.args.numbers) s)) (sym (c.solution-at.ensures ∙ ap (λ r. get_or solutions r []) c.rank.ensures)) (table c.args.numbers h)
+pub returns-then-are_rising : goal.returns-then-are_rising
+returns-then-are_rising c h =
+    subst (λ s. T (inverses (chosen_rows double_parity c.args.numbers) s)) (sym (c.solution_at.ensures ∙ ap (λ r. get_or solutions r []) c.rank.ensures)) (table c.args.numbers h)
 
-pub returns-else-are-rising : goal.returns-else-are-rising
-returns-else-are-rising c h = absurd (subst T (sym c.if-are-rising.ensures) (chosen_rise c.args.numbers h))
+pub returns-else-are_rising : goal.returns-else-are_rising
+returns-else-are_rising c h = absurd (subst T (sym c.if-are_rising.ensures) (chosen_rise c.args.numbers h))

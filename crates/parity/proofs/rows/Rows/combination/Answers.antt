@@ -10,7 +10,7 @@ use Rattle.parity.proofs.rows.Rows.combination.Goals as goal
 pub returns : goal.returns
 returns c =
     let words = c.word.result ∷ c.word-2.result ∷ c.word-3.result ∷ c.word-4.result ∷ [] in
-    c.of-word.ensures
+    c.of_word.ensures
     ∙ same_made 6 (byte c.combined.result) (λ b. dot (λ j. get_or c.args.factors j 0) (λ j. entry (listed c.args.self) j b))
     (λ b h.
     c.combined.ensures b (omega arith)

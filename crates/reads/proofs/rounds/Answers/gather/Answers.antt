@@ -17,7 +17,7 @@ pub loop-i-preserved : goal.loop-i-preserved
 loop-i-preserved g c =
     let m = g.C.Code.meaning in
     sym (gather_more (got c.args.self.now) (answer m c.args.self.now) c.loop-i.i m.n (stamp c.args.stamp) m.k
-    (parts m c.loop-i.parts) (parts m c.gather-at.new.parts) (omega arith) c.gather-at.ensures)
+    (parts m c.loop-i.parts) (parts m c.gather_at.new.parts) (omega arith) c.gather_at.ensures)
     ∙ c.loop-i.invariant
 
 pub returns : goal.returns

@@ -8,15 +8,15 @@ use Rattle.reads.specs.Finds.{found, is_later}
 use Rattle.reads.proofs.Latest.{offer_low, offer_early, offer_unread, offer_read}
 use Rattle.reads.proofs.rounds.Answers.offer.Goals as goal
 
-pub returns-then-is-below : goal.returns-then-is-below
-returns-then-is-below g c =
+pub returns-then-is_below : goal.returns-then-is_below
+returns-then-is_below g c =
     let m = g.C.Code.meaning in
     let S = c.args.self.now in
     let low : below (stamp c.args.stamp) (stamp c.args.floor) ≡ true = search rules in
     offer_low m (got S) (answer m S) (stamp c.args.floor) (found c.args.found) (stamp c.args.stamp) low
 
-pub returns-then-not-is-later : goal.returns-then-not-is-later
-returns-then-not-is-later g c =
+pub returns-then-not-is_later : goal.returns-then-not-is_later
+returns-then-not-is_later g c =
     let m = g.C.Code.meaning in
     let S = c.args.self.now in
     let early : is_later (stamp c.args.stamp) (found c.args.found) ≡ false = search rules in

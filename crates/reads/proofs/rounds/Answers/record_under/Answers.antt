@@ -24,5 +24,5 @@ returns g c =
     let S = c.args.self.now in
     let l : m.k ≤ length (parts m c.gather-parts.result) = omega arith in
     let j = may_join m (got S) (answer m S) (stamp c.args.stamp) (parts m c.gather-parts.result) c.gather-parts.ensures l in
-    c.lying-in-2.ensures
+    c.lying_in-2.ensures
     ∙ sym (enough m (got S) (answer m S) (stamp c.args.stamp) (parts m c.gather-parts.result) c.gather-parts.ensures (search rules) l c.joined-joined.result (c.joined-joined.ensures j))

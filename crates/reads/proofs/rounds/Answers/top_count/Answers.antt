@@ -14,9 +14,9 @@ loop-i-init g c =
 pub loop-i-preserved : goal.loop-i-preserved
 loop-i-preserved g c =
     let m = g.C.Code.meaning in
-    let t : c.max-top.result ≡ max c.loop-i.top c.count-at.result = search rules in
+    let t : c.max-top.result ≡ max c.loop-i.top c.count_at.result = search rules in
     let z = count_more (got c.args.self.now) (answer m c.args.self.now) c.loop-i.i m.n (omega arith) in
-    let y = c.count-at.ensures in
+    let y = c.count_at.ensures in
     let x = c.loop-i.invariant in
     omega arith
 

@@ -18,7 +18,7 @@ loop-i-preserved g c =
     let i = c.loop-i.i in
     let Q = got c.args.self.now in
     let a = answer g.C.Code.meaning c.args.self.now in
-    ap (λ s. top_floor Q a s (i + 1) (n - (i + 1))) c.floor-over-top.ensures ∙ sym (floor_more Q a i n (stamp c.loop-i.top) (omega arith)) ∙ c.loop-i.invariant
+    ap (λ s. top_floor Q a s (i + 1) (n - (i + 1))) c.floor_over-top.ensures ∙ sym (floor_more Q a i n (stamp c.loop-i.top) (omega arith)) ∙ c.loop-i.invariant
 
 pub returns : goal.returns
 returns g c =

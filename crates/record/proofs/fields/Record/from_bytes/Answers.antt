@@ -10,5 +10,5 @@ returns-then-bytes-ne24 c =
 
 pub returns : goal.returns
 returns c =
-    let r = long c.args.bytes.now c.read.result c.if-bytes-ne24.false (λ i. (c.type-inv.bytes i).fits) c.read.ensures.refuses c.read.ensures.holds in
+    let r = long c.args.bytes.now c.read.result c.if-bytes-ne24.false (λ i. (c.type_inv.bytes i).fits) c.read.ensures.refuses c.read.ensures.holds in
     record { refuses = r.refuses; rewrites = r.rewrites; rereads = r.rereads }

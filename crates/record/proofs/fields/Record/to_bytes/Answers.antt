@@ -13,8 +13,8 @@ pub returns : goal.returns
 unfolding layout
 returns c =
     let r = c.args.self.now in
-    c.one-after-the-other.ensures
+    c.one_after_the_other.ensures
     ∙ ap₂ (λ a b. a ++ b) (all_listed 4 _ (ap length c.head.ensures) ∙ c.head.ensures)
     (ap₂ (λ a b. a ++ b) (all_listed 16 _ (name_long r))
-    (all_listed 4 _ (ap length c.to-be-bytes-number.ensures)
-    ∙ c.to-be-bytes-number.ensures ∙ ap (λ z. four_bytes (of_z w32 z)) (to_z-of_z w32 _ (number_width r.number))))
+    (all_listed 4 _ (ap length c.to_be_bytes-number.ensures)
+    ∙ c.to_be_bytes-number.ensures ∙ ap (λ z. four_bytes (of_z w32 z)) (to_z-of_z w32 _ (number_width r.number))))

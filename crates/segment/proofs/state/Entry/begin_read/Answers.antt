@@ -15,6 +15,6 @@ pub returns-else-rounds-gt250 : goal.returns-else-rounds-gt250
 unfolding read_turn
 returns-else-rounds-gt250 g c = search (rules, nat_tests)
 
-pub returns-in-default : goal.returns-in-default
+pub returns-in_default : goal.returns-in_default
 unfolding read_turn
-returns-in-default g c = search (rules, nat_tests)
+returns-in_default g c = search (rules, nat_tests)

@@ -14,41 +14,41 @@ pub returns-in-WriteLook-Looked : goal.returns-in-WriteLook-Looked
 returns-in-WriteLook-Looked g c =
     let x = c.args.self.now in
     record {
-      turned = when_write_look g.C.Code.meaning c.args.me c.args.i x c.requires c.fetch-look.new.self _ c.in-WriteLook-Looked.is-0 (sym c.mail.ensures ∙ c.in-WriteLook-Looked.is-1) (c.fetch-look.ensures.turned c.args.place.now);
-      place = place_stays c.fetch-look.result c.args.place.now (layout c.args.place.now) c.fetch-look.ensures.place;
+      turned = when_write_look g.C.Code.meaning c.args.me c.args.i x c.requires c.fetch_look.new.self _ c.in-WriteLook-Looked.is-0 (sym c.mail.ensures ∙ c.in-WriteLook-Looked.is-1) (c.fetch_look.ensures.turned c.args.place.now);
+      place = place_stays c.fetch_look.result c.args.place.now (layout c.args.place.now) c.fetch_look.ensures.place;
     }
 
 pub returns-in-WriteStore-Stored : goal.returns-in-WriteStore-Stored
 returns-in-WriteStore-Stored g c =
     let x = c.args.self.now in
     record {
-      turned = when_write_store g.C.Code.meaning c.args.me c.args.i x c.requires c.fetch-store.new.self _ c.in-WriteStore-Stored.is-0 (sym c.mail.ensures ∙ c.in-WriteStore-Stored.is-1) (c.fetch-store.ensures.turned c.args.place.now);
-      place = place_stays c.fetch-store.result c.args.place.now (layout c.args.place.now) c.fetch-store.ensures.place;
+      turned = when_write_store g.C.Code.meaning c.args.me c.args.i x c.requires c.fetch_store.new.self _ c.in-WriteStore-Stored.is-0 (sym c.mail.ensures ∙ c.in-WriteStore-Stored.is-1) (c.fetch_store.ensures.turned c.args.place.now);
+      place = place_stays c.fetch_store.result c.args.place.now (layout c.args.place.now) c.fetch_store.ensures.place;
     }
 
 pub returns-in-WriteSettle-Settled : goal.returns-in-WriteSettle-Settled
 returns-in-WriteSettle-Settled g c =
     let x = c.args.self.now in
     record {
-      turned = when_write_settle g.C.Code.meaning c.args.me c.args.i x c.requires c.fetch-settle.new.self _ c.in-WriteSettle-Settled.is-0 (sym c.mail.ensures ∙ c.in-WriteSettle-Settled.is-1) (c.fetch-settle.ensures.turned c.args.place.now);
-      place = place_stays c.fetch-settle.result c.args.place.now (layout c.args.place.now) c.fetch-settle.ensures.place;
+      turned = when_write_settle g.C.Code.meaning c.args.me c.args.i x c.requires c.fetch_settle.new.self _ c.in-WriteSettle-Settled.is-0 (sym c.mail.ensures ∙ c.in-WriteSettle-Settled.is-1) (c.fetch_settle.ensures.turned c.args.place.now);
+      place = place_stays c.fetch_settle.result c.args.place.now (layout c.args.place.now) c.fetch_settle.ensures.place;
     }
 
 pub returns-in-ReadLook-Looked : goal.returns-in-ReadLook-Looked
 returns-in-ReadLook-Looked g c =
     let x = c.args.self.now in
     record {
-      turned = when_read g.C.Code.meaning c.args.me c.args.i x c.requires c.fetch-read.new.self _ c.in-ReadLook-Looked.is-0 (sym c.mail.ensures ∙ c.in-ReadLook-Looked.is-1) c.fetch-read.ensures.turned;
-      place = c.fetch-read.ensures.place;
+      turned = when_read g.C.Code.meaning c.args.me c.args.i x c.requires c.fetch_read.new.self _ c.in-ReadLook-Looked.is-0 (sym c.mail.ensures ∙ c.in-ReadLook-Looked.is-1) c.fetch_read.ensures.turned;
+      place = c.fetch_read.ensures.place;
     }
 
-pub returns-in-default-Empty : goal.returns-in-default-Empty
-returns-in-default-Empty g c =
+pub returns-in_default-Empty : goal.returns-in_default-Empty
+returns-in_default-Empty g c =
     let w : expects c.args.self.now.phase (tag c.args.self.now.post c.args.i) ≡ false = search rules in
     record { turned = when_other g.C.Code.meaning c.args.me c.args.i c.args.self.now c.requires w; place = refl }
 
-pub returns-in-default-Waiting : goal.returns-in-default-Waiting
-returns-in-default-Waiting g c =
+pub returns-in_default-Waiting : goal.returns-in_default-Waiting
+returns-in_default-Waiting g c =
     let w : expects c.args.self.now.phase (tag c.args.self.now.post c.args.i) ≡ false = search rules in
     record { turned = when_other g.C.Code.meaning c.args.me c.args.i c.args.self.now c.requires w; place = refl }
 

@@ -11,6 +11,6 @@ pub returns-in-Idle : goal.returns-in-Idle
 unfolding off_turn
 returns-in-Idle g c = search (rules, nat_tests)
 
-pub returns-in-default : goal.returns-in-default
+pub returns-in_default : goal.returns-in_default
 unfolding off_turn
-returns-in-default g c = search (rules, nat_tests)
+returns-in_default g c = search (rules, nat_tests)

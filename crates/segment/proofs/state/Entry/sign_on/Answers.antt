@@ -7,6 +7,6 @@ pub returns-in-Off : goal.returns-in-Off
 unfolding on_turn
 returns-in-Off g c = search (rules, nat_tests)
 
-pub returns-in-default : goal.returns-in-default
+pub returns-in_default : goal.returns-in_default
 unfolding on_turn
-returns-in-default g c = search (rules, nat_tests)
+returns-in_default g c = search (rules, nat_tests)

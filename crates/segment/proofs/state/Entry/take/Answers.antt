@@ -4,8 +4,8 @@ use Rattle.segment.specs.Waits.{is_waiting}
 use Rattle.segment.proofs.Served.{no_visit, visited}
 use Rattle.segment.proofs.state.Entry.take.Goals as goal
 
-pub returns-then-not-is-waiting : goal.returns-then-not-is-waiting
-returns-then-not-is-waiting g c =
+pub returns-then-not-is_waiting : goal.returns-then-not-is_waiting
+returns-then-not-is_waiting g c =
     let x = c.args.self.now in
     let w : is_waiting (tag x.post c.args.i) ≡ false = search rules in
     no_visit g.C.Code.meaning c.args.i x c.requires c.args.node.now w

@@ -7,8 +7,8 @@ use Rattle.segment.proofs.Put.{done_as, turn_done, refused_done}
 use Rattle.segment.proofs.Stepped.{no_client, write_step}
 use Rattle.segment.proofs.state.Segment.begin_write.Goals as goal
 
-pub returns-then-not-has-client : goal.returns-then-not-has-client
-returns-then-not-has-client g c =
+pub returns-then-not-has_client : goal.returns-then-not-has_client
+returns-then-not-has_client g c =
     let m = g.C.Code.meaning in
     let s = c.args.self.now.state in
     let h : ltb c.args.client (min s.clients 8) ≡ false = search rules in
@@ -21,6 +21,6 @@ returns g c =
     let s = c.args.self.now.state in
     let h : ltb c.args.client (min s.clients 8) ≡ true = search rules in
     let x = c.begin_write in
-    let z : c.to-bytes.result ≡ layout c.args.content.now = c.to-bytes.ensures in
+    let z : c.to_bytes.result ≡ layout c.args.content.now = c.to_bytes.ensures in
     let d = done_as m _ _ _ _ (write_step m (view_of m s) c.args.client h (layout c.args.content.now)) (turn_done m s x.new.self.entries c.args.client x.ensures.long x.ensures.framed _ _ (subst (λ r. Turned m (get_or x.new.self.entries c.args.client no_entry) (did x.result) (write_turn m r (client m (entry s c.args.client)) (mails m (entry s c.args.client).post))) z x.ensures.turned)) in
     record { after = d.after; answer = d.answer }

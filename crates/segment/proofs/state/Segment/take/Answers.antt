@@ -6,8 +6,8 @@ use Rattle.segment.proofs.Put.{done_as, visit_done, refused_done, node_there}
 use Rattle.segment.proofs.Stepped.{no_client, no_node_take, take_step}
 use Rattle.segment.proofs.state.Segment.take.Goals as goal
 
-pub returns-then-not-has-client : goal.returns-then-not-has-client
-returns-then-not-has-client g c =
+pub returns-then-not-has_client : goal.returns-then-not-has_client
+returns-then-not-has_client g c =
     let m = g.C.Code.meaning in
     let s = c.args.self.now.state in
     let h : ltb c.args.client (min s.clients 8) ≡ false = search rules in

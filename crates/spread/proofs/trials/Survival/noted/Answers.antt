@@ -9,4 +9,4 @@ never : {P : Type 0} (r : Bool) → Decides r P → r ≡ false → P → ⊥
 never r d e p = both_ways r e (d.1 p)
 
 pub returns-else-eq : goal.returns-else-eq
-returns-else-eq c e s = absurd (never c.eq.result (slice_eq-Decides Decides-eqb _ _ _ c.eq.ensures) c.if-eq.false (c.as-slice.ensures ∙ e))
+returns-else-eq c e s = absurd (never c.eq.result (slice_eq-Decides Decides-eqb _ _ _ c.eq.ensures) c.if-eq.false (c.as_slice.ensures ∙ e))
