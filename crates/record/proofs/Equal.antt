@@ -1,7 +1,7 @@
 -- Two records are equal if their parts are: the facts in a part's type have one proof at most. Assumes nothing.
-use Rattle.std.proofs.Common.{◌≡◌, ℕ, Bool, true, pos, negsuc, ◌≤ℤ◌}
+use Rattle.std.proofs.Common.{◌≡◌, true, pos, negsuc, ◌≤ℤ◌}
 use mathlib.Core.HLevel.{is_prop→PathP}
-use denote.Struct.Props.{≤ℤ_prop, props}
+use denote.Struct.Props.{props}
 use Rattle.record.specs.declared.fields.Exponent.{Exponent}
 use Rattle.record.specs.declared.fields.Name.{Name as Title}
 use Rattle.record.specs.declared.fields.Number.{Number}
@@ -11,15 +11,15 @@ use Rattle.record.specs.Ranges.{named}
 exponents_equal : (a b : Exponent) → a.value ≡ b.value → a ≡ b
 exponents_equal a b e = λ i. record {
   value = e i;
-  low = is_prop→PathP (λ j. negsuc 3 ≤ℤ e j) (λ j. ≤ℤ_prop) a.low b.low i;
-  high = is_prop→PathP (λ j. e j ≤ℤ pos 4) (λ j. ≤ℤ_prop) a.high b.high i;
+  low = is_prop→PathP (λ j. negsuc 3 ≤ℤ e j) (λ j. hlevel props) a.low b.low i;
+  high = is_prop→PathP (λ j. e j ≤ℤ pos 4) (λ j. hlevel props) a.high b.high i;
 }
 
 numbers_equal : (a b : Number) → a.value ≡ b.value → a ≡ b
 numbers_equal a b e = λ i. record {
   value = e i;
-  low = is_prop→PathP (λ j. negsuc 8999999 ≤ℤ e j) (λ j. ≤ℤ_prop) a.low b.low i;
-  high = is_prop→PathP (λ j. e j ≤ℤ pos 9000000) (λ j. ≤ℤ_prop) a.high b.high i;
+  low = is_prop→PathP (λ j. negsuc 8999999 ≤ℤ e j) (λ j. hlevel props) a.low b.low i;
+  high = is_prop→PathP (λ j. e j ≤ℤ pos 9000000) (λ j. hlevel props) a.high b.high i;
 }
 
 names_equal : (a b : Title) → a.bytes ≡ b.bytes → a ≡ b

@@ -1,12 +1,11 @@
 -- The first part that is none refuses. Assumes nothing.
-use Rattle.std.proofs.Common.{◌≡◌, ℕ, Bool, true, false, List, ℤ, is_some, Some, None, Ok, Err, Option, Result, sym, refl, ap, ◌∙◌, arith}
+use Rattle.std.proofs.Common.{◌≡◌, ℕ, Bool, true, false, List, ℤ, is_some, Some, None, Err, Option, sym, refl, ap, arith}
 use Rattle.std.specs.Option.{ok_or}
 use Rattle.record.specs.declared.units.Unit.{Unit as Measure}
 use Rattle.record.specs.declared.refusals.RecordError.{RecordError}
 use Rattle.record.specs.declared.refusals.RecordError.TheVariants.{Unit, Exponent, Name}
-use Rattle.record.specs.Ranges.{exponent_fits, named, number_fits}
 use Rattle.record.specs.Refusals.{refusal, check}
-use Rattle.record.specs.Making.{Parts, parts, parts_refusal, exponent_refusal, name_refusal, number_refusal}
+use Rattle.record.specs.Making.{parts, parts_refusal, exponent_refusal, name_refusal, number_refusal}
 
 -- a test that does not refuse has passed
 passed : (t : Bool) (n : RecordError) → None ≡ check t n None → t ≡ true

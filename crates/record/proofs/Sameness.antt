@@ -1,9 +1,9 @@
 -- Sameness is an equivalence: it compares parameter, unit and ten_thousandths. Assumes nothing.
-use Rattle.std.proofs.Common.{◌≡◌, Bool, true, ◌&&◌, eqb, sym, refl, ◌∙◌}
+use Rattle.std.proofs.Common.{◌≡◌, true, eqb, sym, refl, ◌∙◌}
 use Rattle.std.proofs.lemmas.Bool.{and_parts, and_from, eqb-true, eq-eqb}
 use Rattle.record.specs.declared.fields.Record.{Record}
 use Rattle.record.specs.Units.{code_of}
-use Rattle.record.specs.Values.{Equivalence, equal, same}
+use Rattle.record.specs.Values.{Equivalence, same}
 use Rattle.record.specs.Tens.{ten_thousandths}
 use Rattle.record.proofs.Scaling.{tens_tell, eqℤ_true, eq_eqℤ}
 

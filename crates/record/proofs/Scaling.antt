@@ -1,10 +1,10 @@
 -- Values in ten_thousandths are equal exactly if the fractions are. Assumes nothing.
-use Rattle.std.proofs.Common.{◌≡◌, ℕ, zero, suc, ◌+◌, ◌-◌, ◌*◌, ◌^◌, ◌<◌, ◌≤◌, Bool, true, false, T, eqb, ℤ, pos, negsuc, ◌*ℤ◌, neg_ℤ, ◌≤ℤ◌, sym, refl, ap, ◌∙◌, subst, not-suc-le-zero, mul_assoc, mul_comm, mul-le-mul, zero-mul, mul-one, arith, lit<, leb→le, pow-add, w64, SFits, of_z}
+use Rattle.std.proofs.Common.{◌≡◌, ℕ, zero, suc, ◌+◌, ◌-◌, ◌*◌, ◌^◌, ◌<◌, ◌≤◌, Bool, true, false, eqb, ℤ, pos, negsuc, ◌*ℤ◌, neg_ℤ, ◌≤ℤ◌, sym, refl, ap, ◌∙◌, subst, not-suc-le-zero, mul_assoc, mul_comm, mul-le-mul, zero-mul, mul-one, arith, lit<, leb→le, pow-add, w64, SFits, of_z}
 use native.Mathlib.Nat.{one-le-pow, eq_of_mul-eq-mul_right}
 use lib.Signed.{mag}
 use Rattle.std.proofs.lemmas.Bool.{eqb-true, eq-eqb, ne_eqb}
-use Rattle.record.specs.Values.{Fraction, scaled, eqℤ, equal}
-use Rattle.record.specs.Tens.{raised, ten_thousandths}
+use Rattle.record.specs.Values.{scaled, eqℤ, equal}
+use Rattle.record.specs.Tens.{ten_thousandths}
 
 -- ---- tests of equality
 

@@ -19,7 +19,7 @@ use Rattle.record.specs.declared.refusals.RecordError.TheVariants.{Exponent, Nam
 use Rattle.record.specs.Ranges.{exponent_fits, number_fits, printable}
 use Rattle.record.specs.Units.{code_of, unit_at}
 use Rattle.record.specs.Refusals.{refusal, refused, check}
-use Rattle.record.specs.Making.{parts, parts_of, parts_refusal}
+use Rattle.record.specs.Making.{parts_of, parts_refusal}
 use Rattle.record.specs.Layout.{four_bytes, four_at, head_bytes, layout, parts_at, bytes_refusal, is_record, Rereads}
 use Rattle.record.specs.Values.{same_parts, same, same_bytes}
 use Rattle.record.proofs.Equal.{records_equal}

@@ -1,5 +1,5 @@
 -- A record from its parts. Assumes nothing.
-use Rattle.std.specs.Prelude.{ℕ, Bool, List, ℤ, is_some, Some, None, Option}
+use Rattle.std.specs.Prelude.{ℕ, List, ℤ, is_some, Some, None, Option}
 use Rattle.record.specs.declared.units.Unit.{Unit as Measure}
 use Rattle.record.specs.declared.fields.Record.{Record}
 use Rattle.record.specs.Ranges.{exponent_fits, number_fits, named}

@@ -1,4 +1,4 @@
-use Rattle.std.proofs.Common.{◌≡◌, ◌∙◌, ap₂, w64, SFits, rules}
+use Rattle.std.proofs.Common.{◌∙◌, ap₂, w64, SFits, rules}
 use Rattle.record.specs.Values.{eqℤ}
 use Rattle.record.proofs.Scaling.{bits_tell, tens_tell}
 use Rattle.record.proofs.values.equal_values.Goals as goal

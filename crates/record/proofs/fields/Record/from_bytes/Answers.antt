@@ -1,6 +1,4 @@
-use Rattle.std.proofs.Common.{refl}
-use Rattle.record.specs.Layout.{parts_at}
-use Rattle.record.proofs.Whole.{Reads, not_long, long}
+use Rattle.record.proofs.Whole.{not_long, long}
 use Rattle.record.proofs.fields.Record.from_bytes.Goals as goal
 
 pub returns-then-bytes-ne24 : goal.returns-then-bytes-ne24
