@@ -4,6 +4,7 @@ ghost use Rattle.code.specs.Meaning.{Chosen};
 ghost use Rattle.field.specs.Matrix.{inverses};
 ghost use Rattle.parity.specs.Rows.{chosen_rows, row_code};
 ghost use Rattle.parity.specs.Solvable.{solvable};
+ghost use Rattle.parity.specs.Lawfully;
 
 use crate::rows::Rows;
 use code::Code;
@@ -63,6 +64,8 @@ impl<M: Factors> Code for RowCode<M> {
     const F: usize = M::F;
 
     ghost meaning = { row_code M.Factors.matrix M.Factors.spare };
+
+    ghost lawful = { Lawfully.lawful M.Factors.matrix M.Factors.spare M.Factors.solves };
 
     fn needed() -> usize {
         NEEDED

@@ -10,7 +10,7 @@ use Rattle.code.specs.Bytes.{Bytes}
 use Rattle.code.specs.Calls.{part, cut}
 use Rattle.code.specs.Meaning.{Meaning, Lawful, Enough, Has, AllBytes}
 use Rattle.code.proofs.Cuts.{part_at, cut_at, part_ends}
-use Rattle.parity.proofs.Lists.{made_bytes, piece_small, piece_long, below_at}
+use Rattle.parity.specs.Lists.{made_bytes, piece_small, piece_long, below_at}
 use Rattle.whiten.specs.Whitening.{mask, masked, all_masked, whitened}
 
 mask_byte : (i b : ℕ) → mask i b < 256

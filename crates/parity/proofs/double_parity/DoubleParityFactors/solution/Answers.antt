@@ -4,7 +4,7 @@ use Rattle.field.specs.Polynomials.{twice, times}
 use Rattle.field.specs.Matrix.{inverses}
 use Rattle.parity.specs.Rows.{chosen_rows}
 use Rattle.parity.specs.DoubleParity.{double_parity, rises, rank_of, solutions}
-use Rattle.parity.proofs.Choices.{chosen_passes}
+use Rattle.parity.specs.Choices.{chosen_passes}
 use Rattle.parity.proofs.double_parity.DoubleParityFactors.solution.Goals as goal
 
 -- the rule of the table, computed at each choice

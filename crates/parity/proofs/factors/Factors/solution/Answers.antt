@@ -1,8 +1,8 @@
 use Rattle.std.proofs.Common.{◌≡◌, ℕ, T, List, [], ◌∷◌, length, get_or, sym, ap, ◌∙◌, subst, arith}
 use Rattle.field.specs.Matrix.{inverted, inverses}
 use Rattle.parity.specs.Rows.{chosen_rows}
-use Rattle.parity.proofs.Lists.{map_four, below_at}
-use Rattle.parity.proofs.Lawfully.{inverses_at}
+use Rattle.parity.specs.Lists.{map_four, below_at}
+use Rattle.parity.specs.Lawfully.{inverses_at}
 use Rattle.parity.proofs.factors.Factors.solution.Goals as goal
 
 four : (a b c d a' b' c' d' : List ℕ) → a ≡ a' → b ≡ b' → c ≡ c' → d ≡ d' → a ∷ b ∷ c ∷ d ∷ [] ≡ a' ∷ b' ∷ c' ∷ d' ∷ []

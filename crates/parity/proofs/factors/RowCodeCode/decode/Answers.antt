@@ -2,9 +2,9 @@ use Rattle.std.proofs.Common.{◌≡◌, T, [], ◌∷◌, length, get_or, take,
 use Rattle.code.specs.Calls.{cut}
 use Rattle.code.specs.Meaning.{Chosen}
 use Rattle.field.specs.Matrix.{inverted, inverses}
-use Rattle.parity.specs.Rows.{chosen_rows, listed, flat, combinations, solved}
-use Rattle.parity.proofs.Lists.{flat_solved, take_four}
-use Rattle.parity.proofs.Lawfully.{factor_bytes, inverses_at, same_solution}
+use Rattle.parity.specs.Rows.{chosen_rows, listed, flat, combinations}
+use Rattle.parity.specs.Lists.{flat_solved, take_four}
+use Rattle.parity.specs.Lawfully.{factor_bytes, inverses_at, same_solution}
 use Rattle.parity.proofs.factors.RowCodeCode.decode.Goals as goal
 
 pub returns : goal.returns

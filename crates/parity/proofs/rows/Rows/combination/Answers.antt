@@ -3,8 +3,8 @@ use Rattle.field.proofs.Lanes.{by_four}
 use Rattle.field.specs.Polynomials.{byte, dot}
 use Rattle.field.specs.Matrix.{entry}
 use Rattle.parity.specs.Rows.{listed}
-use Rattle.parity.proofs.Sums.{dot_same}
-use Rattle.parity.proofs.Lists.{same_made}
+use Rattle.parity.specs.Sums.{dot_same}
+use Rattle.parity.specs.Lists.{same_made}
 use Rattle.parity.proofs.rows.Rows.combination.Goals as goal
 
 pub returns : goal.returns

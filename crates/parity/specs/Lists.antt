@@ -11,7 +11,7 @@ use Rattle.field.proofs.Tested.{left, right}
 use Rattle.field.specs.Polynomials.{dot}
 use Rattle.field.specs.Matrix.{entry}
 use Rattle.parity.specs.Rows.{row_byte, rows_of, listed, flat, combinations, solved}
-use Rattle.parity.proofs.Sums.{dot_same}
+use Rattle.parity.specs.Sums.{dot_same}
 
 pub map_four : {A : Type 0} (f : ℕ → A) (is : List ℕ) → length is ≡ 4 → map f is ≡ f (get_or is 0 0) ∷ f (get_or is 1 0) ∷ f (get_or is 2 0) ∷ f (get_or is 3 0) ∷ []
 map_four f (a ∷ b ∷ c ∷ d ∷ []) h = refl

@@ -12,9 +12,9 @@ use Rattle.field.proofs.Tested.{left, right, at}
 use Rattle.field.specs.Matrix.{entry, unit, inverted, undone, all_bytes, inverses}
 use Rattle.parity.specs.Rows.{six, row_byte, solved, chosen_rows, row_code}
 use Rattle.parity.specs.Solvable.{each_four, solvable}
-use Rattle.parity.proofs.Sums.{dot_same, dot_byte, undoes, same_inverse}
-use Rattle.parity.proofs.Lists.{same_made, made_bytes, piece_small, piece_long, below_at, solved_at}
-use Rattle.parity.proofs.Choices.{chosen_passes}
+use Rattle.parity.specs.Sums.{dot_same, dot_byte, undoes, same_inverse}
+use Rattle.parity.specs.Lists.{same_made, made_bytes, piece_small, piece_long, below_at, solved_at}
+use Rattle.parity.specs.Choices.{chosen_passes}
 
 undone_at : (a b : List (List ℕ)) → T (undone a b) → (r c : ℕ) → r < 4 → c < 4 → dot (entry a r) (λ j. entry b j c) ≡ unit r c
 undone_at a b t r c hr hc =

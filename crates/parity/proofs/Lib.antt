@@ -1,4 +1,0 @@
-pub mod Sums
-pub mod Lists
-pub mod Choices
-pub mod Lawfully
