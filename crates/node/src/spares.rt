@@ -122,7 +122,7 @@ impl Spare {
 
     // The whole record under the stamp.
     pub(crate) fn record_under<C: Code>(&self, stamp: Stamp) -> Option<&[u8]>
-        ensures { option_map (λ x. x.now) result ≡ spare_record (stamp_of stamp) (spare_of C-as-Code.meaning self.now) }
+        ensures { option_map (λ x. x.now) result ≡ spare_record (stamp_of stamp) (spare_of C.Code.meaning self.now) }
     {
         if self.has_record(stamp) {
             Some(&self.bytes)

@@ -56,7 +56,7 @@ impl Answers {
     // The whole record of node i under the stamp, if the node was fetched.
     fn whole_at<C: Code>(&self, i: usize, stamp: Stamp) -> Option<&[u8]>
         requires { i < 8 }
-        ensures { option_map (λ x. x.now) result ≡ only_if (got self.now i) (spare_record (stamp_of stamp) (answer C-as-Code.meaning self.now i).spare) }
+        ensures { option_map (λ x. x.now) result ≡ only_if (got self.now i) (spare_record (stamp_of stamp) (answer C.Code.meaning self.now i).spare) }
     {
         if self.has(i) {
             self.nodes[i].record_under::<C>(stamp)
@@ -67,7 +67,7 @@ impl Answers {
 
     // The first whole record under the stamp.
     fn whole_under<C: Code>(&self, stamp: Stamp) -> Option<&[u8]>
-        ensures { option_map (λ x. x.now) result ≡ whole (got self.now) (answer C-as-Code.meaning self.now) (stamp_of stamp) 0 C-as-Code.meaning.n }
+        ensures { option_map (λ x. x.now) result ≡ whole (got self.now) (answer C.Code.meaning self.now) (stamp_of stamp) 0 C.Code.meaning.n }
     {
         for i in 0..C::nodes() {
             if let Some(bytes) = self.whole_at::<C>(i, stamp) {
@@ -79,7 +79,7 @@ impl Answers {
 
     // The record under the stamp: a whole one, or what k pieces join to.
     fn record_under<C: Code>(&self, stamp: Stamp) -> Option<Record>
-        ensures { option_map layout result ≡ record_under C-as-Code.meaning (got self.now) (answer C-as-Code.meaning self.now) (stamp_of stamp) }
+        ensures { option_map layout result ≡ record_under C.Code.meaning (got self.now) (answer C.Code.meaning self.now) (stamp_of stamp) }
     {
         if let Some(bytes) = self.whole_under::<C>(stamp) {
             return lying_in(bytes);
@@ -95,7 +95,7 @@ impl Answers {
     // The later of what was found and what the answers hold under one more stamp. A stamp below the floor is not readable,
     // and one that is not later need not be read.
     fn offer<C: Code>(&self, found: Option<Found>, stamp: Stamp, floor: Stamp) -> Option<Found>
-        ensures { found_of result ≡ later (found_of found) (highest C-as-Code.meaning (got self.now) (answer C-as-Code.meaning self.now) (stamp_of floor) (stamp_of stamp ∷ [])) }
+        ensures { found_of result ≡ later (found_of found) (highest C.Code.meaning (got self.now) (answer C.Code.meaning self.now) (stamp_of floor) (stamp_of stamp ∷ [])) }
     {
         if stamp.is_below(floor) {
             return found;
@@ -112,7 +112,7 @@ impl Answers {
     // The same for each stamp of node i, if the node was fetched.
     fn offer_node<C: Code>(&self, found: Option<Found>, i: usize, floor: Stamp) -> Option<Found>
         requires { i < 8 }
-        ensures { found_of result ≡ later (found_of found) (highest C-as-Code.meaning (got self.now) (answer C-as-Code.meaning self.now) (stamp_of floor) (if got self.now i then node_stamps (answer C-as-Code.meaning self.now i) else [])) }
+        ensures { found_of result ≡ later (found_of found) (highest C.Code.meaning (got self.now) (answer C.Code.meaning self.now) (stamp_of floor) (if got self.now i then node_stamps (answer C.Code.meaning self.now i) else [])) }
     {
         if !self.has(i) {
             return found;
@@ -126,7 +126,7 @@ impl Answers {
 
     /// The record under the highest readable stamp. A stamp below the highest floor is not readable.
     pub fn rebuild<C: Code>(&self) -> Option<Found>
-        ensures { found_of result ≡ rebuild C-as-Code.meaning (got self.now) (answer C-as-Code.meaning self.now) }
+        ensures { found_of result ≡ rebuild C.Code.meaning (got self.now) (answer C.Code.meaning self.now) }
     {
         let floor = self.top_floor::<C>();
         let mut best = None;

@@ -103,7 +103,7 @@ impl Answers {
     // The highest count of node i, if that was fetched.
     fn count_at<C: Code>(&self, i: usize) -> u32
         requires { i < 8 }
-        ensures { result ≡ (if got self.now i then list_count (answer C-as-Code.meaning self.now i).floor.count (node_stamps (answer C-as-Code.meaning self.now i)) else 0) }
+        ensures { result ≡ (if got self.now i then list_count (answer C.Code.meaning self.now i).floor.count (node_stamps (answer C.Code.meaning self.now i)) else 0) }
     {
         if self.has(i) {
             self.nodes[i].top_count::<C>()
@@ -114,7 +114,7 @@ impl Answers {
 
     /// The highest count in any stamp of the answers, floors included.
     pub fn top_count<C: Code>(&self) -> u32
-        ensures { result ≡ top_count (got self.now) (answer C-as-Code.meaning self.now) 0 C-as-Code.meaning.n }
+        ensures { result ≡ top_count (got self.now) (answer C.Code.meaning self.now) 0 C.Code.meaning.n }
     {
         let mut top = 0;
         for i in 0..C::nodes() {

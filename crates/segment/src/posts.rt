@@ -69,9 +69,9 @@ impl Post {
     // A new round: its request goes into all mailboxes and replaces what was there.
     pub(crate) fn ask<C: Code>(&mut self, request: Request)
         ensures request { self.new.request ≡ request }
-        ensures mails { mails_of C-as-Code.meaning self.new ≡ posted C-as-Code.meaning.n (request_of request) }
+        ensures mails { mails_of C.Code.meaning self.new ≡ posted C.Code.meaning.n (request_of request) }
         ensures fetched { got self.new.answers ≡ nobody }
-        ensures answers { answer C-as-Code.meaning self.new.answers ≡ no_answers }
+        ensures answers { answer C.Code.meaning self.new.answers ≡ no_answers }
     {
         self.request = request;
         self.mails = [Mail::Waiting; 8];
@@ -80,23 +80,23 @@ impl Post {
 
     // The answer in mailbox i is fetched: the mailbox is empty then, and the answer counts in the round.
     pub(crate) fn collect<C: Code>(&mut self, i: usize)
-        requires { i < C-as-Code.meaning.n }
+        requires { i < C.Code.meaning.n }
         ensures request { self.new.request ≡ self.old.request }
-        ensures mails { mails_of C-as-Code.meaning self.new ≡ upd (mails_of C-as-Code.meaning self.old) i empty }
+        ensures mails { mails_of C.Code.meaning self.new ≡ upd (mails_of C.Code.meaning self.old) i empty }
         ensures fetched { got self.new.answers ≡ upd (got self.old.answers) i true }
-        ensures answers { answer C-as-Code.meaning self.new.answers ≡ upd (answer C-as-Code.meaning self.old.answers) i (shown C-as-Code.meaning self.old.answers i) }
+        ensures answers { answer C.Code.meaning self.new.answers ≡ upd (answer C.Code.meaning self.old.answers) i (shown C.Code.meaning self.old.answers i) }
     {
         self.answers.mark(i);
     }
 
     // Node i carries out the request that waits in its mailbox, and leaves its answer there.
     pub(crate) fn serve<C: Code>(&mut self, i: usize, node: &mut Node)
-        requires { (i < C-as-Code.meaning.n) × (is_waiting (tag self.old i) ≡ true) }
-        ensures node { node_of C-as-Code.meaning node.new ≡ served C-as-Code.meaning i (request_of self.old.request) (node_of C-as-Code.meaning node.old) }
+        requires { (i < C.Code.meaning.n) × (is_waiting (tag self.old i) ≡ true) }
+        ensures node { node_of C.Code.meaning node.new ≡ served C.Code.meaning i (request_of self.old.request) (node_of C.Code.meaning node.old) }
         ensures request { self.new.request ≡ self.old.request }
-        ensures mails { mails_of C-as-Code.meaning self.new ≡ upd (mails_of C-as-Code.meaning self.old) i (answered (answers_with (request_of self.old.request) (node_of C-as-Code.meaning node.old))) }
+        ensures mails { mails_of C.Code.meaning self.new ≡ upd (mails_of C.Code.meaning self.old) i (answered (answers_with (request_of self.old.request) (node_of C.Code.meaning node.old))) }
         ensures fetched { got self.new.answers ≡ got self.old.answers }
-        ensures answers { answer C-as-Code.meaning self.new.answers ≡ answer C-as-Code.meaning self.old.answers }
+        ensures answers { answer C.Code.meaning self.new.answers ≡ answer C.Code.meaning self.old.answers }
     {
         match self.request.round {
             Round::Look => {
