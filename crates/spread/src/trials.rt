@@ -3,6 +3,7 @@ ghost use Rattle.std.specs.Prelude.{◌≡◌, ℕ, ◌%◌, List, IfOk};
 ghost use Rattle.code.specs.Bytes.{Bytes};
 ghost use Rattle.spread.specs.Trials.{Picked, Spread};
 
+use anyhow::anyhow;
 use code::{Code, Piece};
 use std::alloc::Global;
 
@@ -27,7 +28,7 @@ fn piece_of<C: Code>(heap: Global, whole: &[u8], node: usize) -> anyhow::Result<
     let mut piece = vec![in heap; 0u8; C::width()]?;
     match C::make(whole, (node % 256) as u8, piece.as_mut_slice()) {
         Ok(()) => Ok(piece),
-        Err(_) => Err(REFUSED.into()),
+        Err(_) => Err(anyhow!(REFUSED)),
     }
 }
 
@@ -70,7 +71,7 @@ fn rebuild<C: Code>(heap: Global, pieces: &[Vec<u8>], silent: u32) -> anyhow::Re
     let mut whole = [0; 24];
     match C::join(picked.as_slice(), &mut whole) {
         Ok(()) => Ok(whole),
-        Err(_) => Err(REFUSED.into()),
+        Err(_) => Err(anyhow!(REFUSED)),
     }
 }
 

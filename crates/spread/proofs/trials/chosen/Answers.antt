@@ -3,7 +3,7 @@ use Rattle.code.specs.declared.calls.Piece.{Piece}
 use Rattle.code.specs.Calls.{contents_of, numbers_of}
 use Rattle.spread.proofs.Spreads.{node_holds, one_more}
 use Rattle.spread.proofs.trials.chosen.Goals as goal
-use Rattle.spread.proofs.trials.chosen.Goals.{then-silent-node-eq0+then-len-needed+in-ok-push, else-silent-node-eq0}
+use Rattle.spread.proofs.trials.chosen.Goals.{then-silent-node-eq0+then-len-needed+in_ok-push, else-silent-node-eq0}
 
 pub loop-node-preserved : goal.loop-node-preserved
 loop-node-preserved g c x s =
@@ -11,7 +11,7 @@ loop-node-preserved g c x s =
     let lawful = g.met.C.Code.lawful in
     let P : List Piece → Type 0 = λ l. contents_of l ≡ map (m.piece x) (numbers_of l) in
     elim c.if-silent-node-eq0.branch [
-      | then-silent-node-eq0+then-len-needed+in-ok-push w ↦
+      | then-silent-node-eq0+then-len-needed+in_ok-push w ↦
           subst P (sym (ap vec_items w.picked-is ∙ w.in_ok-push.ensures.items))
           (one_more m lawful x _ _ (c.loop-node.invariant x s)
           (w.as_slice.ensures.value
