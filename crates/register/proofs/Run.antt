@@ -1,7 +1,6 @@
 -- The worked calls, run by the definitions.
 use Rattle.std.proofs.Common.{◌≡◌, ℕ, zero, suc, ◌<◌, Bool, true, ◌&&◌, ltb, List, [], ◌∷◌, get_or, refl, arith}
 use Rattle.std.proofs.lemmas.Bool.{and_parts, ltb-true}
-use Rattle.code.specs.Bytes as code
 use Rattle.code.specs.Alike.{lawful}
 use Rattle.record.specs.Layout.{is_record}
 use Rattle.register.specs.Tables.{tally}

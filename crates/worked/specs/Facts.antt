@@ -1,5 +1,5 @@
 -- Worked facts: numbers that the definitions give, each as a test.
-use Rattle.std.specs.Prelude.{ℕ, Bool, true, false, not, ◌&&◌, List, [], ◌∷◌, ◌++◌, replicate, ℤ, pos, negsuc, is_some, Some, None, codes, Option, ◌==◌, slice_index}
+use Rattle.std.specs.Prelude.{ℕ, Bool, false, not, ◌&&◌, List, [], ◌∷◌, ◌++◌, replicate, ℤ, pos, negsuc, is_some, Some, None, codes, Option, ◌==◌, slice_index}
 use Rattle.record.specs.declared.units.Unit.TheVariants.{Bar}
 use Rattle.record.specs.Making.{Parts, parts, parts_refusal}
 use Rattle.record.specs.Layout.{bytes_refusal}

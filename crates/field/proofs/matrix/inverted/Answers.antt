@@ -1,6 +1,6 @@
 use Rattle.std.proofs.Common.{◌≡◌, ℕ, List, [], ◌∷◌, ap, ◌∙◌}
 use Rattle.field.specs.Polynomials.{times, inverse, line}
-use Rattle.field.specs.Matrix.{grid, minor, det, inverted}
+use Rattle.field.specs.Matrix.{grid, minor, inverted}
 use Rattle.field.proofs.matrix.inverted.Goals as goal
 
 four : (a b c d a' b' c' d' : List ℕ) → a ≡ a' → b ≡ b' → c ≡ c' → d ≡ d' → a ∷ b ∷ c ∷ d ∷ [] ≡ a' ∷ b' ∷ c' ∷ d' ∷ []

@@ -1,4 +1,4 @@
-use Rattle.std.proofs.Common.{◌≡◌, ℕ, ◌<◌, ◌≢◌, length, Some, sym, ap, ◌∙◌, arith, length-set, get_or-set_other, get_or-set_same, below_more}
+use Rattle.std.proofs.Common.{◌<◌, ◌≢◌, length, Some, sym, ap, ◌∙◌, arith, length-set, get_or-set_other, get_or-set_same, below_more}
 use Rattle.spread.proofs.hex.bytes_of.Goals as goal
 
 pub loop-i-preserved : goal.loop-i-preserved

@@ -1,4 +1,4 @@
-use Rattle.std.proofs.Common.{◌≡◌, ℕ, ◌<◌, ap, ◌∙◌, subst}
+use Rattle.std.proofs.Common.{ℕ, ◌<◌, ap, ◌∙◌, subst}
 use Rattle.spread.specs.Trials.{held}
 use Rattle.spread.proofs.Spreads.{next_node}
 use Rattle.spread.proofs.trials.pieces_of.Goals as goal
