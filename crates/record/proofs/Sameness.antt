@@ -1,4 +1,4 @@
--- Sameness is an equivalence: it compares parameter, unit and ten_thousandths. Assumes nothing.
+-- Sameness is an equivalence: it compares parameter, unit and ten-thousandths. Assumes nothing.
 use Rattle.std.proofs.Common.{◌≡◌, true, eqb, sym, refl, ◌∙◌}
 use Rattle.std.proofs.lemmas.Bool.{and_parts, and_from, eqb-true, eq-eqb}
 use Rattle.record.specs.declared.fields.Record.{Record}

@@ -1,4 +1,4 @@
--- Values in ten_thousandths are equal exactly if the fractions are. Assumes nothing.
+-- Values in ten-thousandths are equal exactly if the fractions are. Assumes nothing.
 use Rattle.std.proofs.Common.{◌≡◌, ℕ, zero, suc, ◌+◌, ◌-◌, ◌*◌, ◌^◌, ◌<◌, ◌≤◌, Bool, true, false, eqb, ℤ, pos, negsuc, ◌*ℤ◌, neg_ℤ, ◌≤ℤ◌, sym, refl, ap, ◌∙◌, subst, not-suc-le-zero, mul_assoc, mul_comm, mul-le-mul, zero-mul, mul-one, arith, lit<, leb→le, pow-add, w64, SFits, of_z}
 use native.Mathlib.Nat.{one-le-pow, eq_of_mul-eq-mul_right}
 use lib.Signed.{mag}
@@ -75,7 +75,7 @@ times_back (negsuc a) (negsuc b) m h e =
     let g : a ≡ b = omega arith in
     ap negsuc g
 
--- ---- fractions and ten_thousandths
+-- ---- fractions and ten-thousandths
 
 under_positive : (n e : ℤ) → 0 < (scaled n e).under
 under_positive n (pos e) = omega arith

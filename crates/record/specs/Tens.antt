@@ -1,4 +1,4 @@
--- A value in ten_thousandths, a whole number for every exponent from -4 on. Assumes nothing.
+-- A value in ten-thousandths, a whole number for every exponent from -4 on. Assumes nothing.
 use Rattle.std.specs.Prelude.{ℕ, ◌+◌, ◌-◌, ◌^◌, ℤ, pos, negsuc, ◌*ℤ◌}
 
 -- The exponent plus 4.

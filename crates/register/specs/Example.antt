@@ -38,7 +38,7 @@ opening =
 abbrev pub middle : List Call
 middle = take 0 2 ∷ fetch 0 0 ∷ fetch 0 2 ∷ take 0 0 ∷ take 0 2 ∷ []
 
--- The end of the write, the sign_off, and a Settle taken after it.
+-- The end of the write, the sign-off, and a Settle taken after it.
 abbrev pub ending : List Call
 ending = fetch 0 0 ∷ fetch 0 2 ∷ sign_off 0 ∷ take 0 1 ∷ []
 

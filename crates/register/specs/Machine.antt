@@ -74,7 +74,7 @@ pub data Call : Type 0 where
 pub data Outcome : Type 0 where
   -- it was refused, by this number
   refused : ℕ → Outcome
-  -- a sign_on, a sign_off or a begin was done
+  -- a sign-on, a sign-off or a begin was done
   done : Outcome
   -- the request was carried out
   taken : Request → Outcome

@@ -60,7 +60,7 @@ plain (machine.wrote s) = wrote s
 plain (machine.found u x b) = gave u x b
 plain (machine.ended e) = ended e
 
--- A sign_on, a sign_off or a begin.
+-- A sign-on, a sign-off or a begin.
 abbrev pub did : Result (Unit {0}) Refusal → Told
 did (Ok u) = done
 did (Err e) = no (refusal e)
