@@ -1,5 +1,5 @@
 -- The layout both ways. Assumes nothing.
-use Rattle.std.proofs.Common.{◌≡◌, ℕ, zero, suc, ◌+◌, ◌*◌, ◌/◌, ◌%◌, ◌^◌, ◌<◌, Bool, true, false, not, ◌&&◌, T, eqb, leb, List, [], ◌∷◌, ◌++◌, length, get_or, take, drop, ℤ, pos, negsuc, ◌≤ℤ◌, is_some, is_ok, IfOk, Some, None, Ok, Err, Result, sym, refl, ap, ◌∙◌, ap₂, inl, inr, mod-eq_of_lt, arith, lit<, leb→le, length-append, w8, w32, SFits, to_z, of_z}
+use Rattle.std.proofs.Common.{◌≡◌, ℕ, zero, suc, ◌+◌, ◌*◌, ◌/◌, ◌%◌, ◌^◌, ◌<◌, Bool, true, false, not, ◌&&◌, T, eqb, leb, List, [], ◌∷◌, ◌++◌, length, get_or, take, drop, ℤ, pos, negsuc, ◌≤ℤ◌, is_some, IfOk, Some, None, Ok, Err, Result, sym, refl, ap, ◌∙◌, ap₂, inl, inr, mod-eq_of_lt, arith, lit<, leb→le, length-append, w8, w32, SFits, to_z, of_z}
 use native.Mathlib.Nat.{div-div-eq-div-mul}
 use lib.Signed.{le_z, mag}
 use mir.Facts.{Fits-of_z}
@@ -281,12 +281,6 @@ pub record Reads (x : List ℕ) (a : Result Record RecordError) : Type 0 where
   pub refuses : refused a ≡ bytes_refusal x
   pub rewrites : IfOk a (λ y. layout y ≡ x)
   pub rereads : Rereads x a
-
--- the answer is a record exactly where one lies in the bytes
-pub accepted : (x : List ℕ) (a : Result Record RecordError) → refused a ≡ bytes_refusal x → is_ok a ≡ is_record x
-unfolding is_record
-accepted x (Ok y) h = ap (λ o. not (is_some o)) h
-accepted x (Err f) h = ap (λ o. not (is_some o)) h
 
 -- bytes that are not 24 hold no record
 pub not_long : (x : List ℕ) → (length x ≡ 24 → ⊥) → Reads x (Err Length)

@@ -56,6 +56,7 @@ impl Record {
 }
 
 /// The record that lies in these bytes, if one does.
+#[tactic(auto, unfolding(crate::specs::Layout::is_record))]
 pub fn lying_in(bytes: &[u8]) -> Option<Record>
     ensures { option_map layout result ≡ lying_in bytes.now }
 {

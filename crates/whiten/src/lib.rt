@@ -4,7 +4,7 @@
 ghost use Rattle.std.specs.Prelude.{◌≡◌, ℕ, ◌*◌, ◌<◌, ◌≤◌, take, bit_xor};
 ghost use Rattle.code.specs.Calls.{cut};
 ghost use Rattle.whiten.specs.Whitening.{mask, masked, all_masked, whitened};
-ghost use Rattle.whiten.specs.WhiteningLemmas as Whitening;
+ghost use Rattle.whiten.specs.WhiteningLemmas;
 
 use code::Code;
 use parity::P6;
@@ -60,7 +60,7 @@ impl<C: Code> Code for Whitened<C> {
 
     ghost meaning = { whitened C.Code.meaning };
 
-    ghost lawful = { Whitening.lawful C.Code.meaning C.Code.lawful };
+    ghost lawful = { WhiteningLemmas.lawful C.Code.meaning C.Code.lawful };
 
     fn needed() -> usize {
         C::needed()
