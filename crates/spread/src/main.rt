@@ -8,7 +8,7 @@ mod hex;
 mod trials;
 
 use code::{C3, C5, Code};
-use parity::{Factors, P6};
+use parity::P6;
 use record::{Record, RecordError};
 use std::alloc::Global;
 use std::io::{BufRead, BufReader};
