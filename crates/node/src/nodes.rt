@@ -1,8 +1,10 @@
 //! Nodes: what one holds, what it does with a Store and a Settle, and what it shows at a Look.
 ghost use Rattle.std.specs.Prelude.{◌≡◌, ◌<◌, [], ◌∷◌, length, IfSome, slice_index_or};
 ghost use Rattle.std.specs.Option.{option_map};
+ghost use Rattle.code.specs.Meaning.{Meaning};
 ghost use Rattle.register.specs.Stamps.{below, lowest};
 ghost use Rattle.register.specs.Nodes.{free, raise, put as placed, store, held_bytes};
+ghost use Rattle.register.specs.Machine.{no_node};
 ghost use Rattle.register.specs.Reading.{node_piece, spare_record, node_stamps, list_count};
 ghost use Rattle.node.specs.Stamped.{stamp as stamp_of};
 ghost use Rattle.node.specs.Views.{node as node_of};
@@ -23,7 +25,9 @@ pub struct Node {
 
 impl Node {
     /// A node that holds nothing, with the lowest floor.
-    pub fn empty() -> Node {
+    pub fn empty() -> Node
+        ensures { (m : Meaning) → node_of m result ≡ no_node }
+    {
         Node {
             floor: Stamp::lowest(),
             shelf: Shelf::empty(),
