@@ -57,6 +57,7 @@ impl Node {
 
     /// Raises the floor of node i: what stands under a lower stamp is dropped, and a whole record under the floor itself
     /// is cut to its piece. Nothing changes where the floor is there already, or above.
+    #[tactic(auto, unfolding(register::specs::Nodes::raise))]
     pub fn raise<C: Code>(&mut self, i: u8, floor: Stamp)
         ensures { i < C.Code.meaning.n → node_of C.Code.meaning self.new ≡ raise C.Code.meaning i (stamp_of floor) (node_of C.Code.meaning self.old) }
     {
@@ -80,6 +81,7 @@ impl Node {
     }
 
     /// Stores a record at node i under a stamp above the floor, after raising the floor to the one that came with it.
+    #[tactic(auto, unfolding(register::specs::Nodes::store))]
     pub fn store<C: Code>(&mut self, i: u8, stamp: Stamp, floor: Stamp, whole: [u8; 24])
         ensures { i < C.Code.meaning.n → node_of C.Code.meaning self.new ≡ store C.Code.meaning i (stamp_of stamp) (stamp_of floor) whole (node_of C.Code.meaning self.old) }
     {
@@ -118,6 +120,7 @@ impl Node {
     }
 
     /// How many pieces and records the node holds, each under its stamp.
+    #[tactic(auto, using(crate::proofs::Listed::length_stamps))]
     pub fn items<C: Code>(&self) -> usize
         ensures { result ≡ length (node_stamps (node_of C.Code.meaning self.now)) }
     {
@@ -150,6 +153,7 @@ impl Node {
     }
 
     /// The piece under a stamp.
+    #[tactic(auto, unfolding(register::specs::Reading::node_piece))]
     pub fn piece_under<C: Code>(&self, stamp: Stamp) -> Option<&[u8]>
         ensures piece { option_map (λ x. x.now) result ≡ node_piece (stamp_of stamp) (node_of C.Code.meaning self.now) }
         ensures long { IfSome result (λ p. length p.now ≡ C.Code.meaning.w) }

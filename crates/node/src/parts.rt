@@ -32,6 +32,7 @@ impl Parts {
     }
 
     /// How many there are.
+    #[tactic(auto, using(crate::proofs::Picks::length_parts))]
     pub fn len<C: Code>(&self) -> usize
         ensures { result ≡ length (parts_of C.Code.meaning self.now) }
     {

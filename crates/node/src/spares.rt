@@ -50,6 +50,7 @@ impl Spare {
     }
 
     // What a floor leaves of it: a lower stamp frees it, and a whole record under the floor itself is cut to its piece i.
+    #[tactic(auto, unfolding(register::specs::Nodes::cut))]
     pub(crate) fn cut<C: Code>(&mut self, i: u8, floor: Stamp)
         ensures { i < C.Code.meaning.n → spare_of C.Code.meaning self.new ≡ cut C.Code.meaning i (stamp_of floor) (spare_of C.Code.meaning self.old) }
     {
@@ -81,6 +82,7 @@ impl Spare {
     }
 
     // The whole record goes in if the spare is free or under a lower stamp.
+    #[tactic(auto, unfolding(register::specs::Nodes::replace))]
     pub(crate) fn replace<C: Code>(&mut self, stamp: Stamp, whole: [u8; 24])
         ensures { spare_of C.Code.meaning self.new ≡ replace (stamp_of stamp) whole (spare_of C.Code.meaning self.old) }
     {
@@ -103,6 +105,7 @@ impl Spare {
     }
 
     // The piece under the stamp.
+    #[tactic(auto, unfolding(register::specs::Reading::spare_piece))]
     pub(crate) fn piece_under<C: Code>(&self, stamp: Stamp) -> Option<&[u8]>
         ensures piece { option_map (λ x. x.now) result ≡ spare_piece (stamp_of stamp) (spare_of C.Code.meaning self.now) }
         ensures long { IfSome result (λ p. length p.now ≡ C.Code.meaning.w) }
@@ -121,6 +124,7 @@ impl Spare {
     }
 
     // The whole record under the stamp.
+    #[tactic(auto, unfolding(register::specs::Reading::spare_record))]
     pub(crate) fn record_under<C: Code>(&self, stamp: Stamp) -> Option<&[u8]>
         ensures { option_map (λ x. x.now) result ≡ spare_record (stamp_of stamp) (spare_of C.Code.meaning self.now) }
     {

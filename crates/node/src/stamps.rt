@@ -22,6 +22,7 @@ impl Stamp {
     }
 
     /// Whether the stamp is below another.
+    #[tactic(auto, unfolding(register::specs::Stamps::below))]
     pub fn is_below(self, other: Stamp) -> bool
         ensures { result ≡ below (stamp_of self) (stamp_of other) }
     {
@@ -29,6 +30,7 @@ impl Stamp {
     }
 
     /// Whether two stamps are one.
+    #[tactic(auto, unfolding(register::specs::Stamps::same_stamp))]
     pub fn is(self, other: Stamp) -> bool
         ensures { result ≡ same_stamp (stamp_of self) (stamp_of other) }
     {
