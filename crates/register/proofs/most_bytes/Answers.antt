@@ -1,6 +1,5 @@
-use Rattle.std.proofs.Common.{refl}
 use Rattle.register.proofs.Whole.{safe}
 use Rattle.register.proofs.most_bytes.Goals as goal
 
-pub returns : goal.returns
-returns c = record { count = refl; every = safe }
+pub returns-clause-every : goal.returns-clause-every
+returns-clause-every c = safe

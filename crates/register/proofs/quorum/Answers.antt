@@ -1,4 +1,4 @@
-use Rattle.std.proofs.Common.{◌-◌, ◌∙◌, ap₂, arith}
+use Rattle.std.proofs.Common.{arith}
 use Rattle.register.proofs.Whole.{safe}
 use Rattle.register.proofs.quorum.Goals as goal
 
@@ -10,8 +10,5 @@ all_but-requires g c =
     let d = c.nodes.ensures in
     omega arith
 
-pub returns : goal.returns
-returns g c = record {
-  count = c.all_but.ensures ∙ ap₂ ◌-◌ c.nodes.ensures c.silent.ensures;
-  safe = safe g.C.Code.meaning g.met.C.Code.lawful;
-}
+pub returns-clause-safe : goal.returns-clause-safe
+returns-clause-safe g c = safe g.C.Code.meaning g.met.C.Code.lawful
