@@ -1,10 +1,10 @@
 -- The calls of a code: which are refused, and what the others write.
 use Rattle.std.specs.Prelude.{ℕ, ◌*◌, Bool, cond, ◌&&◌, List, map, length, take, drop, Some, None, Ok, Err, Option, Result, ◌==◌, nat_eq, nat_lt}
-use Rattle.std.specs.List.{range_with_len}
+use Rattle.std.specs.List.{list_all, range_with_len}
 use Rattle.code.specs.declared.calls.CodeError.{CodeError}
 use Rattle.code.specs.declared.calls.CodeError.TheVariants.{Number, Size, Order}
 use Rattle.code.specs.declared.calls.Piece.{Piece}
-use Rattle.code.specs.Meaning.{Meaning, every, all_below, rising}
+use Rattle.code.specs.Meaning.{Meaning, all_below, rising}
 
 -- The number of each refusal.
 abbrev pub refusal : CodeError → ℕ
@@ -39,7 +39,7 @@ contents_of ps = map bytes_of ps
 
 -- Each piece has w bytes.
 abbrev pub all_long : ℕ → List (List ℕ) → Bool
-all_long w ps = every (λ p. nat_eq (length p) w) ps
+all_long w ps = list_all (λ p. nat_eq (length p) w) ps
 
 -- There is a place of 24 bytes, and k pieces of w.
 abbrev pub fitting : ℕ → ℕ → ℕ → List (List ℕ) → Bool

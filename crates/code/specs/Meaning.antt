@@ -1,6 +1,7 @@
 -- What a code means, and when it is lawful.
 -- A code spreads a record of 24 bytes over n nodes: each holds one piece of w bytes, and any k pieces give the record back.
-use Rattle.std.specs.Prelude.{◌≡◌, ℕ, ◌+◌, ◌*◌, ◌<◌, ◌≤◌, Bool, true, ◌&&◌, T, ltb, List, [], ◌∷◌, map, length, nat_lt}
+use Rattle.std.specs.Prelude.{◌≡◌, ℕ, ◌+◌, ◌*◌, ◌<◌, ◌≤◌, Bool, true, ◌&&◌, T, List, [], ◌∷◌, map, length, nat_lt}
+use Rattle.std.specs.List.{list_all}
 use Rattle.code.specs.Bytes.{Bytes}
 
 -- What a code means.
@@ -18,14 +19,9 @@ pub record Meaning : Type 0 where
   -- the 24 bytes that have, at these numbers, these pieces
   pub join : List ℕ → List (List ℕ) → List ℕ
 
--- The test passes at each element.
-abbrev pub every : {A : Type 0} → (A → Bool) → List A → Bool
-every test [] = true
-every test (x ∷ xs) = test x && every test xs
-
 -- Each number is below n.
 abbrev pub all_below : ℕ → List ℕ → Bool
-all_below n is = every (λ i. ltb i n) is
+all_below n is = list_all (λ i. nat_lt i n) is
 
 -- Each number is above the one before it, the first above i.
 abbrev pub rising_from : ℕ → List ℕ → Bool

@@ -3,15 +3,17 @@ ghost use Rattle.std.specs.Prelude.{◌≡◌, ◌*◌, ◌≤◌, true, length,
 ghost use Rattle.code.specs.Meaning.{all_below, rising, AllBytes};
 ghost use Rattle.code.specs.Calls.{refusal, number_of, bytes_of, numbers_of, contents_of, all_long, fitting, cut};
 
+use std::array;
+
 /// Why a call is refused.
 #[derive(Clone, Copy, PartialEq, Eq, Debug)]
 pub enum CodeError {
     /// a piece number that the code does not have
-    Number,
+    Number = 20,
     /// a record, a piece or a place of another size, or another count of pieces
-    Size,
+    Size = 21,
     /// piece numbers that do not rise
-    Order,
+    Order = 22,
 }
 
 impl CodeError {
@@ -19,11 +21,7 @@ impl CodeError {
     pub fn number(self) -> u8
         ensures { result ≡ refusal self }
     {
-        match self {
-            CodeError::Number => 20,
-            CodeError::Size => 21,
-            CodeError::Order => 22,
-        }
+        self as u8
     }
 }
 
@@ -39,7 +37,7 @@ impl Piece<'_> {
     fn is_below(&self, n: usize) -> bool
         ensures { result ≡ nat_lt (number_of self.now) n }
     {
-        (self.number as usize) < n
+        usize::from(self.number) < n
     }
 
     // Whether the piece has w bytes.
@@ -61,46 +59,31 @@ impl Piece<'_> {
 pub(crate) fn known(pieces: &[Piece<'_>], n: usize) -> bool
     ensures { result ≡ all_below n (numbers_of pieces.now) }
 {
-    for p in pieces {
-        if !p.is_below(n) {
-            return false;
-        }
-    }
-    true
+    pieces
+        .iter()
+        .map(|piece| piece.number)
+        .all(|number| usize::from(number) < n)
 }
 
 // Whether each piece has w bytes.
 fn sized(pieces: &[Piece<'_>], w: usize) -> bool
     ensures { result ≡ all_long w (contents_of pieces.now) }
 {
-    for p in pieces {
-        if !p.is_long(w) {
-            return false;
-        }
-    }
-    true
+    pieces.iter().all(|piece| piece.is_long(w))
 }
 
 // Whether there is room for a record, and k pieces of w bytes.
 pub(crate) fn fits(room: usize, k: usize, w: usize, pieces: &[Piece<'_>]) -> bool
     ensures { result ≡ fitting room k w (contents_of pieces.now) }
 {
-    if room != 24 || pieces.len() != k {
-        return false;
-    }
-    sized(pieces, w)
+    room == 24 && pieces.len() == k && sized(pieces, w)
 }
 
 // Whether the numbers of the pieces rise.
 pub(crate) fn in_order(pieces: &[Piece<'_>]) -> bool
     ensures { result ≡ rising (numbers_of pieces.now) }
 {
-    for i in 1..pieces.len() {
-        if !pieces[i].is_above(&pieces[i - 1]) {
-            return false;
-        }
-    }
-    true
+    pieces.is_sorted_by(|before, piece| piece.is_above(before))
 }
 
 // The numbers of at most eight pieces, and zeros after them.
@@ -108,11 +91,7 @@ pub(crate) fn gather_numbers(pieces: &[Piece<'_>]) -> [u8; 8]
     requires { length pieces.now ≤ 8 }
     ensures { take (length pieces.now) result ≡ numbers_of pieces.now }
 {
-    let mut all = [0; 8];
-    for i in 0..pieces.len() {
-        all[i] = pieces[i].number;
-    }
-    all
+    array::from_fn(|i| pieces.get(i).map_or(0, |piece| piece.number))
 }
 
 // Writes the bytes of the pieces, one piece after the other.
@@ -122,7 +101,7 @@ pub(crate) fn gather_bytes(pieces: &[Piece<'_>], w: usize, all: &mut [u8])
     ensures parts { cut (length pieces.now) w all.new ≡ contents_of pieces.now }
     ensures bytes { AllBytes w (contents_of pieces.now) }
 {
-    for i in 0..pieces.len() {
-        all[i * w..i * w + w].copy_from_slice(pieces[i].bytes);
+    for (i, piece) in pieces.iter().enumerate() {
+        all[i * w..i * w + w].copy_from_slice(piece.bytes);
     }
 }

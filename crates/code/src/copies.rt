@@ -1,13 +1,10 @@
 //! Copies: each node holds the whole record, so one piece is enough.
-ghost use Rattle.std.specs.Prelude.{◌≡◌, ℕ, ◌+◌, ◌*◌, ◌≤◌};
+ghost use Rattle.std.specs.Prelude.{◌≡◌, refl, ℕ, ◌+◌, ◌*◌, ◌≤◌};
 ghost use Rattle.code.specs.Copies.{copies};
 ghost use Rattle.code.specs.Alike;
 ghost use Rattle.std.proofs.Common.{rules};
 
 use crate::interface::Code;
-
-// Any one copy is the whole record.
-const NEEDED: usize = 1;
 
 // A record is its own piece, and a piece is the record.
 fn copy(bytes: [u8; 24]) -> [u8; 24]
@@ -21,48 +18,38 @@ pub trait Spares {
     /// how many copies are spare
     const F: usize;
 
-    /// how many copies there are in all
-    const N: usize;
+    ghost F: { ℕ };
 
-    ghost spare: { ℕ };
+    ghost some: { 1 ≤ F };
 
-    /// The constants as functions, whose values a proof under the bound `Spares` knows.
-    fn spares() -> usize
-        ensures { result ≡ spare };
-
-    fn total() -> usize
-        ensures { result ≡ 2 * spare + 1 };
-
-    ghost some: { 1 ≤ spare };
-
-    ghost few: { spare ≤ 3 };
+    ghost few: { F ≤ 3 };
 }
 
 /// A copy on each of 2 f + 1 nodes, where S says how many the f spare ones are.
 pub struct Copies<S>(S);
 
 impl<S: Spares> Code for Copies<S> {
-    const K: usize = NEEDED;
+    const K: usize = 1;
 
-    const N: usize = S::N;
+    const N: usize = 2 * S::F + 1;
 
     const F: usize = S::F;
 
-    ghost meaning = { copies S.Spares.spare };
+    ghost meaning = { copies S.Spares.F };
 
-    ghost lawful = { Alike.lawful S.Spares.spare S.Spares.some S.Spares.few };
+    ghost K = { 1 };
 
-    fn needed() -> usize {
-        NEEDED
-    }
+    ghost N = { 2 * S.Spares.F + 1 };
 
-    fn nodes() -> usize {
-        S::total()
-    }
+    ghost F = { S.Spares.F };
 
-    fn silent() -> usize {
-        S::spares()
-    }
+    ghost lawful = { Alike.lawful S.Spares.F S.Spares.some S.Spares.few };
+
+    ghost k_is = { refl };
+
+    ghost n_is = { refl };
+
+    ghost f_is = { refl };
 
     fn encode(whole: [u8; 24], _number: u8) -> [u8; 24] {
         copy(whole)
@@ -78,21 +65,11 @@ pub struct One;
 impl Spares for One {
     const F: usize = 1;
 
-    const N: usize = 3;
-
-    ghost spare = { 1 };
+    ghost F = { 1 };
 
     ghost some = { Prim.search rules };
 
     ghost few = { Prim.search rules };
-
-    fn spares() -> usize {
-        Self::F
-    }
-
-    fn total() -> usize {
-        Self::N
-    }
 }
 
 pub struct Two;
@@ -100,21 +77,11 @@ pub struct Two;
 impl Spares for Two {
     const F: usize = 2;
 
-    const N: usize = 5;
-
-    ghost spare = { 2 };
+    ghost F = { 2 };
 
     ghost some = { Prim.search rules };
 
     ghost few = { Prim.search rules };
-
-    fn spares() -> usize {
-        Self::F
-    }
-
-    fn total() -> usize {
-        Self::N
-    }
 }
 
 /// Three copies, one of them spare.

@@ -1,5 +1,5 @@
 //! What a code is, and what its users call.
-ghost use Rattle.std.specs.Prelude.{◌≡◌, ◌/◌, ◌<◌, ◌≤◌, length, take, OnOk};
+ghost use Rattle.std.specs.Prelude.{◌≡◌, ℕ, ◌/◌, ◌<◌, ◌≤◌, length, take, OnOk};
 ghost use Rattle.code.specs.Meaning.{Meaning, Lawful, Chosen, Only, OneAndOnly, Rebuilds};
 ghost use Rattle.code.specs.Calls.{refused, numbers_of, contents_of, cut, make_refusal, join_refusal, written};
 
@@ -25,21 +25,18 @@ pub trait Code {
 
     ghost meaning: { Meaning };
 
-    /// The constants as functions, whose values a proof under the bound `Code` knows.
-    fn needed() -> usize
-        ensures { result ≡ meaning.k };
+    // The values of the constants.
+    ghost K: { ℕ };
 
-    fn nodes() -> usize
-        ensures { result ≡ meaning.n };
+    ghost N: { ℕ };
 
-    fn silent() -> usize
-        ensures { result ≡ meaning.f };
+    ghost F: { ℕ };
 
     /// How many bytes a piece has.
     fn width() -> usize
         ensures { result ≡ meaning.w }
     {
-        piece_size(Self::needed())
+        piece_size(Self::K)
     }
 
     /// The piece of a record at a number that the code has. The first w bytes count.
@@ -56,16 +53,15 @@ pub trait Code {
         ensures refuses { refused result ≡ make_refusal meaning number (length whole.now) (length place.old) }
         ensures writes { place.new ≡ written (make_refusal meaning number (length whole.now) (length place.old)) (meaning.piece whole.now number) place.old }
     {
-        if number as usize >= Self::nodes() {
+        if usize::from(number) >= Self::N {
             return Err(CodeError::Number);
         }
+        let whole: [u8; 24] = whole.try_into().map_err(|_| CodeError::Size)?;
         let w = Self::width();
-        if whole.len() != 24 || place.len() != w {
+        if place.len() != w {
             return Err(CodeError::Size);
         }
-        let mut bytes = [0; 24];
-        bytes.copy_from_slice(whole);
-        let piece = Self::encode(bytes, number);
+        let piece = Self::encode(whole, number);
         place.copy_from_slice(&piece[..w]);
         Ok(())
     }
@@ -76,11 +72,11 @@ pub trait Code {
         ensures writes { place.new ≡ written (join_refusal meaning (numbers_of pieces.now) (contents_of pieces.now) (length place.old)) (meaning.join (numbers_of pieces.now) (contents_of pieces.now)) place.old }
         ensures only { OnOk result (Only meaning (numbers_of pieces.now) (contents_of pieces.now) place.new) }
     {
-        if !known(pieces, Self::nodes()) {
+        if !known(pieces, Self::N) {
             return Err(CodeError::Number);
         }
         let w = Self::width();
-        if !fits(place.len(), Self::needed(), w, pieces) {
+        if !fits(place.len(), Self::K, w, pieces) {
             return Err(CodeError::Size);
         }
         if !in_order(pieces) {
@@ -94,6 +90,13 @@ pub trait Code {
     }
 
     ghost lawful: { Lawful meaning };
+
+    // The constants are what the meaning says.
+    ghost k_is: { K ≡ meaning.k };
+
+    ghost n_is: { N ≡ meaning.n };
+
+    ghost f_is: { F ≡ meaning.f };
 }
 
 /// A theorem, with nothing to run: k pieces at any rising numbers come from one record only, and

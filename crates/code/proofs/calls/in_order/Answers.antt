@@ -1,16 +1,10 @@
-use Rattle.std.proofs.Common.{arith}
+use Rattle.std.proofs.Common.{rules}
+use Rattle.std.proofs.lemmas.List.Sorted.{answers_always}
 use Rattle.code.specs.Calls.{number_of}
-use Rattle.code.proofs.Default.{none}
-use Rattle.code.proofs.Scan.{rising_more, rising_fails, rising_all}
+use Rattle.code.proofs.Scan.{in_order, adjacent_rises}
 use Rattle.code.proofs.calls.in_order.Goals as goal
 
-pub loop-i-preserved : goal.loop-i-preserved
-loop-i-preserved c =
-    rising_more number_of c.args.pieces.now c.loop-i.i none (omega arith) c.loop-i-test.true c.if-not-is_above.ensures c.loop-i.invariant
-
-pub returns-then-not-is_above : goal.returns-then-not-is_above
-returns-then-not-is_above c =
-    rising_fails number_of c.args.pieces.now c.loop-i.i none (omega arith) c.loop-i-test.true c.if-not-is_above.ensures c.loop-i.invariant
-
 pub returns : goal.returns
-returns c = rising_all number_of c.args.pieces.now c.loop-i.i none (omega arith) c.loop-i-test.false c.loop-i.invariant
+returns c =
+    adjacent_rises number_of c.args.pieces.now c.is_sorted_by.result
+    (c.is_sorted_by.ensures.cases (in_order number_of) (answers_always _ _ _ (λ a r q k. search rules)))

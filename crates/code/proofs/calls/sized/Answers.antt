@@ -1,19 +1,13 @@
-use Rattle.std.proofs.Common.{ℕ, Bool, eqb, List, length}
+use Rattle.std.proofs.Common.{length, nat_eq, refl, rules, sym, ◌∙◌}
+use borrow.Author.Tests.{tests}
+use Rattle.std.proofs.lemmas.Iterator.{YieldsList-from_slice}
+use Rattle.std.proofs.lemmas.Iterator.Search.{all_from_yields_List}
+use Rattle.std.proofs.lemmas.List.Folds.{list_all-map}
 use Rattle.code.specs.Calls.{bytes_of}
-use Rattle.code.proofs.Default.{none}
-use Rattle.code.proofs.Scan.{every_more, every_fails, every_all}
 use Rattle.code.proofs.calls.sized.Goals as goal
 
-abbrev test : ℕ → List ℕ → Bool
-test w p = eqb (length p) w
-
-pub loop-p-preserved : goal.loop-p-preserved
-loop-p-preserved c =
-    every_more (test c.args.w) bytes_of c.args.pieces.now c.loop-p.p-index none c.loop-p-test.true c.if-not-is_long.ensures c.loop-p.invariant
-
-pub returns-then-not-is_long : goal.returns-then-not-is_long
-returns-then-not-is_long c =
-    every_fails (test c.args.w) bytes_of c.args.pieces.now c.loop-p.p-index none c.loop-p-test.true c.if-not-is_long.ensures c.loop-p.invariant
-
 pub returns : goal.returns
-returns c = every_all (test c.args.w) bytes_of c.args.pieces.now c.loop-p.p-index none c.loop-p-test.false c.loop-p.invariant
+returns c =
+    all_from_yields_List (λ p. nat_eq (length (bytes_of p)) c.args.w) _ _ _ c.all.ensures.ran (YieldsList-from_slice c.args.pieces.now c.iter.ensures.rest)
+    (λ x b q k. search (rules, tests))
+    ∙ sym (list_all-map (λ bs. nat_eq (length bs) c.args.w) bytes_of c.args.pieces.now)

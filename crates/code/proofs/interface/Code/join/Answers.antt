@@ -8,7 +8,7 @@ use Rattle.code.proofs.interface.Code.join.Goals as goal
 pub gather_numbers-requires : goal.gather_numbers-requires
 gather_numbers-requires g c =
     few_pieces g.Self.Code.meaning g.met.Self.Code.lawful c.args.pieces.now (length c.args.place.now)
-    c.needed.result c.width-w.result c.needed.ensures c.width-w.ensures c.if-not-fits.ensures
+    c.K.result c.width-w.result (c.K.ensures ∙ g.met.Self.Code.k_is) c.width-w.ensures c.if-not-fits.ensures
 
 pub gather_bytes-requires : goal.gather_bytes-requires
 gather_bytes-requires g c =
@@ -16,11 +16,12 @@ gather_bytes-requires g c =
     let law = g.met.Self.Code.lawful in
     let xs = c.args.pieces.now in
     let room = length c.args.place.now in
-    let k = c.needed.result in
+    let k = c.K.result in
+    let k_is = c.K.ensures ∙ g.met.Self.Code.k_is in
     let w = c.width-w.result in
     record {
-      count = all_places m law xs room k w c.needed.ensures c.width-w.ensures c.if-not-fits.ensures;
-      sizes = all_sized m law xs room k w c.needed.ensures c.width-w.ensures c.if-not-fits.ensures;
+      count = all_places m law xs room k w k_is c.width-w.ensures c.if-not-fits.ensures;
+      sizes = all_sized m law xs room k w k_is c.width-w.ensures c.if-not-fits.ensures;
     }
 
 pub returns : goal.returns
@@ -31,12 +32,12 @@ returns g c =
     let is = numbers_of xs in
     let ps = contents_of xs in
     let room = length c.args.place.now in
-    let n = c.nodes.result in
-    let k = c.needed.result in
+    let n = c.N.result in
+    let k = c.K.result in
     let w = c.width-w.result in
-    let k_is = c.needed.ensures in
+    let k_is = c.K.ensures ∙ g.met.Self.Code.k_is in
     let w_is = c.width-w.ensures in
-    let n_is = c.nodes.ensures in
+    let n_is = c.N.ensures ∙ g.met.Self.Code.n_is in
     let fits = c.if-not-fits.ensures in
     let known = c.if-not-known.ensures in
     let order = c.if-not-in_order.ensures in
