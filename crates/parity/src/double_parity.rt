@@ -1,6 +1,6 @@
 // The double parity of RAID 6: pieces 0 to 3 are the rows of a record, piece 4 is their sum, and piece 5 the sum of 1, 2, 4
 // and 8 times the rows.
-ghost use Rattle.std.specs.Prelude.{◌≡◌, ◌<◌, [], slice_index_or};
+ghost use Rattle.std.specs.Prelude.{◌≡◌, ◌<◌, refl, [], slice_index_or};
 ghost use Rattle.parity.specs.DoubleParity.{double_parity, rises, rank, solutions};
 ghost use Rattle.field.specs.Polynomials.{twice, times, inverse};
 ghost use Rattle.field.specs.Matrix.{inverted};
@@ -112,17 +112,13 @@ impl Factors for DoubleParity {
 
     ghost matrix = { double_parity };
 
-    ghost spare = { 1 };
+    ghost N = { 6 };
+
+    ghost F = { 1 };
 
     ghost solves = { unfold twice times inverse inverted solvable in tt };
 
-    fn nodes() -> usize {
-        Self::N
-    }
-
-    fn silent() -> usize {
-        Self::F
-    }
+    ghost n_is = { refl };
 
     fn factors(number: u8) -> [u8; 4] {
         if number < 6 {

@@ -1,5 +1,5 @@
 // Codes by a matrix of factors.
-ghost use Rattle.std.specs.Prelude.{◌≡◌, ℕ, ◌<◌, T, List, [], length, slice_index_or};
+ghost use Rattle.std.specs.Prelude.{◌≡◌, ℕ, ◌<◌, refl, T, List, [], length, slice_index_or};
 ghost use Rattle.code.specs.Meaning.{Chosen};
 ghost use Rattle.field.specs.Matrix.{inverses};
 ghost use Rattle.parity.specs.Rows.{chosen_rows, row_code};
@@ -10,28 +10,21 @@ use crate::rows::Rows;
 use code::Code;
 use field::inverted;
 
-// A record has four rows, so four pieces give it back.
-const NEEDED: usize = 4;
-
 /// A matrix with a row of four factors for each node: its piece is the sum of a record's rows, each times its factor.
 ///
 /// An implementation gives the matrix and the counts, and computes `solvable`: then `RowCode` is a code.
 pub trait Factors {
-    // how many nodes there are
+    /// how many nodes there are
     const N: usize;
-    // how many nodes may be silent
+    /// how many nodes may be silent
     const F: usize;
 
     ghost matrix: { List (List ℕ) };
 
-    ghost spare: { ℕ };
+    // The values of the constants.
+    ghost N: { ℕ };
 
-    // The constants as functions, whose values a proof under the bound `Factors` knows.
-    fn nodes() -> usize
-        ensures { result ≡ length matrix };
-
-    fn silent() -> usize
-        ensures { result ≡ spare };
+    ghost F: { ℕ };
 
     /// The factors of a piece that the code has.
     fn factors(number: u8) -> [u8; 4]
@@ -50,34 +43,36 @@ pub trait Factors {
         ])
     }
 
-    ghost solves: { T (solvable matrix spare) };
+    ghost solves: { T (solvable matrix F) };
+
+    ghost n_is: { N ≡ length matrix };
 }
 
-/// The code of a matrix of factors.
+/// The code of a matrix of factors. A record has four rows, so four pieces give it back.
 pub struct RowCode<M>(M);
 
 impl<M: Factors> Code for RowCode<M> {
-    const K: usize = NEEDED;
+    const K: usize = 4;
 
     const N: usize = M::N;
 
     const F: usize = M::F;
 
-    ghost meaning = { row_code M.Factors.matrix M.Factors.spare };
+    ghost meaning = { row_code M.Factors.matrix M.Factors.F };
 
-    ghost lawful = { Lawfully.lawful M.Factors.matrix M.Factors.spare M.Factors.solves };
+    ghost K = { 4 };
 
-    fn needed() -> usize {
-        NEEDED
-    }
+    ghost N = { M.Factors.N };
 
-    fn nodes() -> usize {
-        M::nodes()
-    }
+    ghost F = { M.Factors.F };
 
-    fn silent() -> usize {
-        M::silent()
-    }
+    ghost lawful = { Lawfully.lawful M.Factors.matrix M.Factors.F M.Factors.solves };
+
+    ghost k_is = { refl };
+
+    ghost n_is = { M.Factors.n_is };
+
+    ghost f_is = { refl };
 
     fn encode(whole: [u8; 24], number: u8) -> [u8; 24] {
         Rows::of(whole).combination(M::factors(number)).widened()

@@ -26,7 +26,7 @@ pub fn quorum<C: Code>() -> usize
     ensures count { result ≡ C.Code.meaning.n - C.Code.meaning.f }
     ensures safe { Safe C.Code.meaning }
 {
-    all_but(C::silent(), C::nodes())
+    all_but(C::F, C::N)
 }
 
 /// How many pieces under one stamp are enough to read it.
@@ -35,7 +35,7 @@ pub fn readable_from<C: Code>() -> usize
     ensures count { result ≡ C.Code.meaning.k }
     ensures records { MeetsOnlyRecords C.Code.meaning }
 {
-    C::needed()
+    C::K
 }
 
 /// How many rounds a write takes: Look, Store and Settle.

@@ -60,19 +60,19 @@ impl<C: Code> Code for Whitened<C> {
 
     ghost meaning = { whitened C.Code.meaning };
 
+    ghost K = { C.Code.K };
+
+    ghost N = { C.Code.N };
+
+    ghost F = { C.Code.F };
+
     ghost lawful = { WhiteningLemmas.lawful C.Code.meaning C.Code.lawful };
 
-    fn needed() -> usize {
-        C::needed()
-    }
+    ghost k_is = { C.Code.k_is };
 
-    fn nodes() -> usize {
-        C::nodes()
-    }
+    ghost n_is = { C.Code.n_is };
 
-    fn silent() -> usize {
-        C::silent()
-    }
+    ghost f_is = { C.Code.f_is };
 
     fn encode(whole: [u8; 24], number: u8) -> [u8; 24] {
         masked(number, C::encode(whole, number))

@@ -20,4 +20,4 @@ returns g c h =
     (c.factors.ensures (below_at (length m) is h.below 0 (omega arith))) (c.factors-2.ensures (below_at (length m) is h.below 1 (omega arith)))
     (c.factors-3.ensures (below_at (length m) is h.below 2 (omega arith))) (c.factors-4.ensures (below_at (length m) is h.below 3 (omega arith)))
     ∙ sym (map_four (λ i. get_or m i []) is h.count)) in
-    subst (λ s. T (inverses (chosen_rows m is) s)) (sym taken) (inverses_at m g.Self.Factors.spare g.met.Self.Factors.solves is h)
+    subst (λ s. T (inverses (chosen_rows m is) s)) (sym taken) (inverses_at m g.Self.Factors.F g.met.Self.Factors.solves is h)

@@ -20,5 +20,5 @@ returns g c h =
     c.flat.ensures
     ∙ ap flat (c.solved.ensures ∙ ap (λ rows. combinations s (listed rows)) c.of.ensures)
     ∙ flat_solved s c.args.parts
-    ∙ same_solution m (length m) (factor_bytes m g.M.Factors.spare test) is h s (inverted (chosen_rows m is)) undo
-    (inverses_at m g.M.Factors.spare test is h) (cut 4 6 c.args.parts)
+    ∙ same_solution m (length m) (factor_bytes m g.M.Factors.F test) is h s (inverted (chosen_rows m is)) undo
+    (inverses_at m g.M.Factors.F test is h) (cut 4 6 c.args.parts)
