@@ -3,3 +3,4 @@ pub mod Scan
 pub mod Cuts
 pub mod Laws
 pub mod Joins
+pub mod FromFn

@@ -2,16 +2,8 @@
 ghost use Rattle.std.specs.Prelude.{◌≡◌, refl, ℕ, ◌+◌, ◌*◌, ◌≤◌};
 ghost use Rattle.code.specs.Copies.{copies};
 ghost use Rattle.code.specs.Alike;
-ghost use Rattle.std.proofs.Common.{rules};
 
 use crate::interface::Code;
-
-// A record is its own piece, and a piece is the record.
-fn copy(bytes: [u8; 24]) -> [u8; 24]
-    ensures { result ≡ bytes }
-{
-    bytes
-}
 
 /// How many of the copies are spare: one to three, since a code has at most eight nodes.
 pub trait Spares {
@@ -25,7 +17,8 @@ pub trait Spares {
     ghost few: { F ≤ 3 };
 }
 
-/// A copy on each of 2 f + 1 nodes, where S says how many the f spare ones are.
+/// A copy on each of 2 f + 1 nodes, where S says how many the f spare ones are: a record is its own piece, and any one piece
+/// is the record.
 pub struct Copies<S>(S);
 
 impl<S: Spares> Code for Copies<S> {
@@ -52,11 +45,11 @@ impl<S: Spares> Code for Copies<S> {
     ghost f_is = { refl };
 
     fn encode(whole: [u8; 24], _number: u8) -> [u8; 24] {
-        copy(whole)
+        whole
     }
 
     fn decode(_numbers: [u8; 8], parts: [u8; 24]) -> [u8; 24] {
-        copy(parts)
+        parts
     }
 }
 
@@ -67,9 +60,9 @@ impl Spares for One {
 
     ghost F = { 1 };
 
-    ghost some = { Prim.search rules };
+    ghost some = { Alike.one_some };
 
-    ghost few = { Prim.search rules };
+    ghost few = { Alike.one_few };
 }
 
 pub struct Two;
@@ -79,9 +72,9 @@ impl Spares for Two {
 
     ghost F = { 2 };
 
-    ghost some = { Prim.search rules };
+    ghost some = { Alike.two_some };
 
-    ghost few = { Prim.search rules };
+    ghost few = { Alike.two_few };
 }
 
 /// Three copies, one of them spare.

@@ -8,13 +8,14 @@ ghost use Rattle.whiten.specs.WhiteningLemmas;
 
 use code::Code;
 use parity::P6;
+use std::array;
 
 // What byte b of a piece is combined with.
 fn mask(number: u8, b: usize) -> u8
     requires { b < 24 }
     ensures { result ≡ mask number b }
 {
-    ((165 + 7 * number as usize + b) % 256) as u8
+    ((165 + 7 * usize::from(number) + b) % 256) as u8
 }
 
 // Byte b of a piece with its mask, or without it again.
@@ -25,27 +26,13 @@ fn mixed(value: u8, number: u8, b: usize) -> u8
     value ^ mask(number, b)
 }
 
-// A piece with its masks, as far as it goes: what stands after it does not count.
-fn masked(number: u8, piece: [u8; 24]) -> [u8; 24]
-    ensures { result ≡ masked 24 number piece }
-{
-    let mut white = [0; 24];
-    for b in 0..24usize {
-        white[b] = mixed(piece[b], number, b);
-    }
-    white
-}
-
-// Pieces of w bytes that lie one after the other, each with its masks.
+// Pieces of w bytes that lie one after the other, each with its masks. One piece that fills the array is such pieces too.
 fn all_masked(numbers: [u8; 8], w: usize, parts: [u8; 24]) -> [u8; 24]
-    requires { (3 ≤ w) × (w ≤ 24) }
+    requires low { 3 ≤ w }
+    requires high { w ≤ 24 }
     ensures { (k : ℕ) → k * w ≡ 24 → cut k w result ≡ all_masked k w (take k numbers) (cut k w parts) }
 {
-    let mut plain = [0; 24];
-    for t in 0..24usize {
-        plain[t] = mixed(parts[t], numbers[t / w], t % w);
-    }
-    plain
+    array::from_fn(|t| mixed(parts[t], numbers[t / w], t % w))
 }
 
 /// A code whose pieces are whitened.
@@ -75,7 +62,7 @@ impl<C: Code> Code for Whitened<C> {
     ghost f_is = { C.Code.f_is };
 
     fn encode(whole: [u8; 24], number: u8) -> [u8; 24] {
-        masked(number, C::encode(whole, number))
+        all_masked([number; 8], 24, C::encode(whole, number))
     }
 
     fn decode(numbers: [u8; 8], parts: [u8; 24]) -> [u8; 24] {

@@ -5,10 +5,11 @@ use Rattle.whiten.specs.Whitening.{all_masked}
 use Rattle.whiten.specs.WhiteningLemmas.{width_least}
 use Rattle.whiten.proofs.WhitenedCode.decode.Goals as goal
 
-pub all_masked-requires : goal.all_masked-requires
-all_masked-requires g c =
-    let law = g.met.C.Code.lawful in
-    subst (λ (w : ℕ). (3 ≤ w) × (w ≤ 24)) (sym c.width.ensures) (width_least g.C.Code.meaning law, width_fits g.C.Code.meaning law)
+pub all_masked-requires-clause-low : goal.all_masked-requires-clause-low
+all_masked-requires-clause-low g c = subst (λ (w : ℕ). 3 ≤ w) (sym c.width.ensures) (width_least g.C.Code.meaning g.met.C.Code.lawful)
+
+pub all_masked-requires-clause-high : goal.all_masked-requires-clause-high
+all_masked-requires-clause-high g c = subst (λ (w : ℕ). w ≤ 24) (sym c.width.ensures) (width_fits g.C.Code.meaning g.met.C.Code.lawful)
 
 pub returns : goal.returns
 returns g c h =
