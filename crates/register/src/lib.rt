@@ -57,6 +57,7 @@ pub fn most_bytes() -> usize
 }
 
 /// How many calls the worked example has: on three copies, a read that finds the first record and a write that ends.
+#[tactic(auto, using(crate::proofs::Run::worked))]
 pub fn example_length() -> usize
     ensures count { result ≡ length calls }
     ensures worked { Worked }

@@ -2,20 +2,14 @@
 #![tactic(auto)]
 
 ghost use Rattle.std.specs.Prelude.{◌≡◌, true, length};
-ghost use Rattle.code.specs.Meaning.{every};
+ghost use Rattle.std.specs.List.{list_all};
 ghost use Rattle.worked.specs.Facts.{facts};
 
-// How many facts are listed.
-fn listed() -> usize
-    ensures { result ≡ length facts }
-{
-    11
-}
-
 /// How many worked facts there are. Each holds, by computing it from the definitions.
+#[tactic(auto, using(crate::proofs::Computed::all_hold))]
 pub fn worked_facts() -> usize
     ensures count { result ≡ length facts }
-    ensures hold { every (λ b. b) facts ≡ true }
+    ensures hold { list_all (λ b. b) facts ≡ true }
 {
-    listed()
+    11
 }
