@@ -102,40 +102,40 @@ pub of_sum : (f : ℕ → ℕ) → Linear f → (n : ℕ) (g : ℕ → ℕ) → 
 of_sum f l zero g = of_zero f l
 of_sum f l (suc n) g = l (sum n g) (g n) ∙ ap (λ x. bit_xor x (f (g n))) (of_sum f l n g)
 
--- the sum of four products, by the highest i coefficients of the first factors
+-- the sum of four products, by the coefficients of the first factors from x^i on
 abbrev pub dot_high : ℕ → (ℕ → ℕ) → (ℕ → ℕ) → ℕ
-dot_high i u v = sum 4 (λ j. times_low i (u j / 2 ^ (8 - i)) (v j))
+dot_high i u v = sum 4 (λ j. times_low (8 - i) (u j / 2 ^ i) (v j))
 
 pub sum_none : (n : ℕ) → sum n (λ j. 0) ≡ 0
 sum_none zero = refl
 sum_none (suc n) = xor_zero_r (sum n (λ j. 0)) ∙ sum_none n
 
-pub dot_starts : (i b : ℕ) (u v : ℕ → ℕ) → ((j : ℕ) → j < 4 → u j < 2 ^ (8 - i)) → byte 0 b ≡ dot_high i u v
+pub dot_starts : (i b : ℕ) (u v : ℕ → ℕ) → ((j : ℕ) → j < 4 → u j < 2 ^ i) → byte 0 b ≡ dot_high i u v
 dot_starts i b u v small =
     ap (λ x. x % 256) (zero-div (2 ^ (8 * b))) ∙ sym (sum_none 4)
-    ∙ sum_same 4 (λ j. 0) (λ j. times_low i (u j / 2 ^ (8 - i)) (v j))
+    ∙ sum_same 4 (λ j. 0) (λ j. times_low (8 - i) (u j / 2 ^ i) (v j))
     (λ j h.
     sym
-    (ap (λ p. times_low i p (v j)) (div-eq_of_lt (small j h)) ∙ of_zero (λ p. times_low i p (v j)) (times_low_linear_l i (v j))))
+    (ap (λ p. times_low (8 - i) p (v j)) (div-eq_of_lt (small j h)) ∙ of_zero (λ p. times_low (8 - i) p (v j)) (times_low_linear_l (8 - i) (v j))))
 
-pub dot_more : (i : ℕ) (u v : ℕ → ℕ) → i < 8 → bit_xor (twice (dot_high i u v)) (sum 4 (λ j. coefficient (u j) (7 - i) * v j)) ≡ dot_high (i + 1) u v
-dot_more i u v h =
-    ap (λ x. bit_xor x (sum 4 (λ j. coefficient (u j) (7 - i) * v j))) (of_sum twice twice_linear 4 (λ j. times_low i (u j / 2 ^ (8 - i)) (v j)))
-    ∙ sym (sum_xor 4 (λ j. twice (times_low i (u j / 2 ^ (8 - i)) (v j))) (λ j. coefficient (u j) (7 - i) * v j))
-    ∙ sum_same 4 (λ j. bit_xor (twice (times_low i (u j / 2 ^ (8 - i)) (v j))) (coefficient (u j) (7 - i) * v j))
-    (λ j. times_low (i + 1) (u j / 2 ^ (8 - (i + 1))) (v j)) (λ j hj. horner i (u j) (v j) h)
+pub dot_more : (i k : ℕ) (u v : ℕ → ℕ) → i ≡ k + 1 → k < 8 → bit_xor (twice (dot_high i u v)) (sum 4 (λ j. coefficient (u j) k * v j)) ≡ dot_high k u v
+dot_more i k u v e h =
+    let above : ℕ → ℕ = λ j. times_low (8 - i) (u j / 2 ^ i) (v j) in
+    let here : ℕ → ℕ = λ j. coefficient (u j) k * v j in
+    ap (λ x. bit_xor x (sum 4 here)) (of_sum twice twice_linear 4 above) ∙ sym (sum_xor 4 (λ j. twice (above j)) here)
+    ∙ sum_same 4 (λ j. bit_xor (twice (above j)) (here j)) (λ j. times_low (8 - k) (u j / 2 ^ k) (v j)) (λ j hj. horner i k (u j) (v j) e h)
 
-pub dot_ends : (i : ℕ) (u v : ℕ → ℕ) → i ≡ 8 → dot_high i u v ≡ dot u v
+pub dot_ends : (i : ℕ) (u v : ℕ → ℕ) → i ≡ 0 → dot_high i u v ≡ dot u v
 dot_ends i u v e =
-    sum_same 4 (λ j. times_low i (u j / 2 ^ (8 - i)) (v j)) (λ j. times (u j) (v j)) (λ j h. horner_ends i (u j) (v j) e)
+    sum_same 4 (λ j. times_low (8 - i) (u j / 2 ^ i) (v j)) (λ j. times (u j) (v j)) (λ j h. horner_ends i (u j) (v j) e)
 
 -- what one more coefficient does to each byte
-pub lane : (i b : ℕ) (u w : ℕ → ℕ) (acc doubled : ℕ) → i < 8 → byte doubled b ≡ twice (byte acc b) → byte acc b ≡ dot_high i u (λ j. byte (w j) b)
-    → byte (bit_xor doubled (sum 4 (λ j. coefficient (u j) (7 - i) * w j))) b ≡ dot_high (i + 1) u (λ j. byte (w j) b)
-lane i b u w acc doubled h d inv =
-    byte_linear b doubled (sum 4 (λ j. coefficient (u j) (7 - i) * w j))
+pub lane : (i k b : ℕ) (u w : ℕ → ℕ) (acc doubled : ℕ) → i ≡ k + 1 → k < 8 → byte doubled b ≡ twice (byte acc b) → byte acc b ≡ dot_high i u (λ j. byte (w j) b)
+    → byte (bit_xor doubled (sum 4 (λ j. coefficient (u j) k * w j))) b ≡ dot_high k u (λ j. byte (w j) b)
+lane i k b u w acc doubled e h d inv =
+    byte_linear b doubled (sum 4 (λ j. coefficient (u j) k * w j))
     ∙ ap₂ bit_xor (d ∙ ap twice inv)
-    (of_sum (λ x. byte x b) (byte_linear b) 4 (λ j. coefficient (u j) (7 - i) * w j)
-    ∙ sum_same 4 (λ j. byte (coefficient (u j) (7 - i) * w j) b) (λ j. coefficient (u j) (7 - i) * byte (w j) b)
-    (λ j hj. byte_bit (coefficient (u j) (7 - i)) (w j) b (low (u j / 2 ^ (7 - i)))))
-    ∙ dot_more i u (λ j. byte (w j) b) h
+    (of_sum (λ x. byte x b) (byte_linear b) 4 (λ j. coefficient (u j) k * w j)
+    ∙ sum_same 4 (λ j. byte (coefficient (u j) k * w j) b) (λ j. coefficient (u j) k * byte (w j) b)
+    (λ j hj. byte_bit (coefficient (u j) k) (w j) b (low (u j / 2 ^ k))))
+    ∙ dot_more i k u (λ j. byte (w j) b) e h

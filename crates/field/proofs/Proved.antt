@@ -1,5 +1,5 @@
 -- Bytes are a field.
-use Rattle.std.proofs.Common.{◌≡◌, ℕ, zero, suc, ◌+◌, ◌-◌, ◌*◌, ◌/◌, ◌%◌, ◌^◌, ◌<◌, ◌≤◌, Bool, eqb, ltb, sym, refl, ap, ◌∙◌, le_of_suc-le-suc, not-suc-le-zero, one-mul, zero-mul, div-one, add-one, arith, eqb→eq, ltb→lt}
+use Rattle.std.proofs.Common.{◌≡◌, ℕ, zero, suc, ◌+◌, ◌-◌, ◌*◌, ◌/◌, ◌%◌, ◌^◌, ◌<◌, ◌≤◌, Bool, eqb, ltb, sym, refl, ap, ◌∙◌, le_of_suc-le-suc, not-suc-le-zero, one-mul, zero-mul, div-one, arith, eqb→eq, ltb→lt}
 use lib.Bits.{bit_xor, xor_shr, xor_lt}
 use Rattle.std.proofs.lemmas.Nat.{shr-shr}
 use Rattle.field.specs.Polynomials.{sum, coefficient, unreduced, twice, times_low, times, squared, squares, inverse}
@@ -165,18 +165,16 @@ unfolding reduced
 leaves a b ha hb = (quotient_low 8 a b, is_reduced a b ha hb)
 
 -- one coefficient more, from the highest down
-pub horner : (i a b : ℕ) → i < 8 → bit_xor (twice (times_low i (a / 2 ^ (8 - i)) b)) (coefficient a (7 - i) * b) ≡ times_low (i + 1) (a / 2 ^ (8 - (i + 1))) b
-horner i a b h =
-    let here : 8 - (i + 1) ≡ 7 - i = omega arith in
-    let next : 7 - i + 1 ≡ 8 - i = omega arith in
+pub horner : (i k a b : ℕ) → i ≡ k + 1 → k < 8 → bit_xor (twice (times_low (8 - i) (a / 2 ^ i) b)) (coefficient a k * b) ≡ times_low (8 - k) (a / 2 ^ k) b
+horner i k a b e h =
+    let here : 8 - k ≡ suc (8 - i) = omega arith in
     sym
-    (ap (λ m. times_low m (a / 2 ^ (8 - (i + 1))) b) (add-one i)
-    ∙ ap (λ k. times_low (suc i) (a / 2 ^ k) b) here
-    ∙ ap (λ p. bit_xor (twice (times_low i p b)) (coefficient a (7 - i) * b)) (shr-shr a (7 - i) 1 ∙ ap (λ k. a / 2 ^ k) next))
+    (ap (λ m. times_low m (a / 2 ^ k) b) here
+    ∙ ap (λ p. bit_xor (twice (times_low (8 - i) p b)) (coefficient a k * b)) (shr-shr a k 1 ∙ ap (λ n. a / 2 ^ n) (sym e)))
 
-pub horner_ends : (i a b : ℕ) → i ≡ 8 → times_low i (a / 2 ^ (8 - i)) b ≡ times a b
+pub horner_ends : (i a b : ℕ) → i ≡ 0 → times_low (8 - i) (a / 2 ^ i) b ≡ times a b
 unfolding times
-horner_ends i a b e = ap (λ m. times_low m (a / 2 ^ (8 - m)) b) e ∙ ap (λ p. times_low 8 p b) (div-one a)
+horner_ends i a b e = ap (λ k. times_low (8 - k) (a / 2 ^ k) b) e ∙ ap (λ p. times_low 8 p b) (div-one a)
 
 -- inverses
 

@@ -1,36 +1,23 @@
 //! Arithmetic in the field of 256 elements that the double parity of RAID 6 is computed in.
 #![tactic(auto)]
 
-ghost use Rattle.std.specs.Prelude.{◌≡◌, ℕ, ◌-◌, ◌*◌, ◌/◌, ◌^◌, ◌<◌, ◌≤◌, bit_and, bit_xor, slice_index};
-ghost use Rattle.field.specs.Polynomials.{sum, coefficient, twice, times, dot, line, square, inverse, byte};
+ghost use Rattle.std.specs.Prelude.{◌≡◌, ℕ, ◌-◌, ◌*◌, ◌/◌, ◌^◌, ◌<◌, ◌≤◌, bit_and, bit_xor, fold, slice_index};
+ghost use Rattle.field.specs.Polynomials.{coefficient, twice, times, dot, line, square, inverse, byte};
 ghost use Rattle.field.specs.Laws.{FieldLaws};
 
 pub mod matrix;
 
 pub use matrix::inverted;
+use std::array;
 
 // What x^8 is, modulo x^8 + x^4 + x^3 + x^2 + 1.
-const REDUCED: u8 = 29;
-
-// What doubling a byte adds for the x^8 that it gives, if any.
-fn overflow(a: u8) -> u8
-    ensures { result ≡ a / 128 * 29 }
-{
-    (a >> 7) * REDUCED
-}
-
-/// x times a byte.
-pub fn double(a: u8) -> u8
-    ensures { result ≡ twice a }
-{
-    (a << 1) ^ overflow(a)
-}
+const REDUCED: u64 = 29;
 
 // What doubling each byte of a word adds for the x^8 that they give.
 fn overflow_each(word: u64) -> u64
     ensures { result ≡ bit_and (word / 128) 0x0101_0101_0101_0101 * 29 }
 {
-    ((word >> 7) & 0x0101_0101_0101_0101) * REDUCED as u64
+    ((word >> 7) & 0x0101_0101_0101_0101) * REDUCED
 }
 
 /// x times each byte of a word.
@@ -40,21 +27,51 @@ pub fn double_each(word: u64) -> u64
     ((word & 0x7f7f_7f7f_7f7f_7f7f) << 1) ^ overflow_each(word)
 }
 
-// The coefficient of x^i.
-fn bit(a: u8, i: u32) -> u8
-    requires { i < 8 }
-    ensures value { result ≡ coefficient a i }
-    ensures small { result ≤ 1 }
+/// x times a byte.
+pub fn double(a: u8) -> u8
+    ensures { result ≡ twice a }
 {
-    (a >> i) % 2
+    double_each(u64::from(a)).to_le_bytes()[0]
+}
+
+// A coefficient of a polynomial.
+#[derive(Clone, Copy)]
+struct Bit {
+    value: u8,
+    ghost small: { value ≤ 1 },
+}
+
+impl Bit {
+    // The coefficient of x^i.
+    fn of(a: u8, i: u32) -> Bit
+        requires { i < 8 }
+        ensures { result.value ≡ coefficient a i }
+    {
+        Bit {
+            value: (a >> i) % 2,
+        }
+    }
+
+    // A byte, or 0.
+    fn times(self, b: u8) -> u8
+        ensures { result ≡ self.value * b }
+    {
+        self.value * b
+    }
+
+    // A word, or 0, by a mask and not by a branch.
+    fn masked(self, word: u64) -> u64
+        ensures { result ≡ self.value * word }
+    {
+        u64::from(self.value).wrapping_neg() & word
+    }
 }
 
 // The product so far and a bit more of its first factor: (x p + u) b = x (p b) + u b.
-fn extended(sum: u8, u: u8, b: u8) -> u8
-    requires { u ≤ 1 }
-    ensures { result ≡ bit_xor (twice sum) (u * b) }
+fn extended(sum: u8, u: Bit, b: u8) -> u8
+    ensures { result ≡ bit_xor (twice sum) (u.value * b) }
 {
-    double(sum) ^ u * b
+    double(sum) ^ u.times(b)
 }
 
 /// The product of two bytes.
@@ -63,8 +80,8 @@ pub fn product(a: u8, b: u8) -> u8
     ensures field { FieldLaws }
 {
     let mut sum = 0;
-    for i in 0..8u32 {
-        sum = extended(sum, bit(a, 7 - i), b);
+    for i in (0..8).rev() {
+        sum = extended(sum, Bit::of(a, i), b);
     }
     sum
 }
@@ -89,40 +106,30 @@ pub fn inverse(a: u8) -> u8
     power
 }
 
-// A word, or 0, by a mask and not by a branch.
-fn masked(u: u8, word: u64) -> u64
-    requires { u ≤ 1 }
-    ensures { result ≡ u * word }
-{
-    (u as u64).wrapping_neg() & word
-}
-
 // The words whose factor has the coefficient of x^i, and 0 for the others.
 fn taken(factors: [u8; 4], i: u32, words: [u64; 4]) -> [u64; 4]
     requires { i < 8 }
     ensures { result ≡ line (λ j. coefficient (slice_index factors j) i * slice_index words j) }
 {
-    [
-        masked(bit(factors[0], i), words[0]),
-        masked(bit(factors[1], i), words[1]),
-        masked(bit(factors[2], i), words[2]),
-        masked(bit(factors[3], i), words[3]),
-    ]
+    array::from_fn(|j| Bit::of(factors[j], i).masked(words[j]))
 }
 
 // The sum of four words.
 fn added(words: [u64; 4]) -> u64
-    ensures { result ≡ sum 4 (λ j. slice_index words j) }
+    ensures { result ≡ fold bit_xor 0 words }
 {
-    words[0] ^ words[1] ^ words[2] ^ words[3]
+    words.iter().fold(0, |sum, word| sum ^ word)
 }
 
-// How many of the eight coefficients, from the highest on, no factor has.
-fn unused(factors: [u8; 4]) -> u32
+// How many of the eight coefficients, from the lowest on, some factor may have.
+fn used(factors: [u8; 4]) -> u32
     ensures most { result ≤ 8 }
-    ensures none { (j : ℕ) → j < 4 → slice_index factors j < 2 ^ (8 - result) }
+    ensures none { (j : ℕ) → j < 4 → slice_index factors j < 2 ^ result }
 {
-    (factors[0] | factors[1] | factors[2] | factors[3]).leading_zeros()
+    8 - factors
+        .iter()
+        .fold(0u8, |all, factor| all | factor)
+        .leading_zeros()
 }
 
 /// The sum of four words, where each byte of a word is multiplied by the word's factor.
@@ -130,8 +137,8 @@ pub fn combined(factors: [u8; 4], words: [u64; 4]) -> u64
     ensures { (b : ℕ) → b < 8 → byte result b ≡ dot (λ j. slice_index factors j) (λ j. byte (slice_index words j) b) }
 {
     let mut total = 0;
-    for i in unused(factors)..8 {
-        total = double_each(total) ^ added(taken(factors, 7 - i, words));
+    for i in (0..used(factors)).rev() {
+        total = double_each(total) ^ added(taken(factors, i, words));
     }
     total
 }

@@ -1,31 +1,28 @@
 // The inverse of a matrix of four rows and columns, by its minors.
-ghost use Rattle.std.specs.Prelude.{◌≡◌, ◌<◌, [], ◌∷◌};
+ghost use Rattle.std.specs.Prelude.{◌≡◌, ◌<◌, [], ◌∷◌, slice_index_or};
 ghost use Rattle.field.specs.Polynomials.{times, line};
 ghost use Rattle.field.specs.Matrix.{entry, skip, det2, det3, minor, det, inverted};
 
 use crate::{inverse, product};
+use std::array;
 
-// The place that is at i once place r of four is left out.
-fn place(r: usize, i: usize) -> usize
-    requires { i < 3 }
-    ensures value { result ≡ skip r i }
-    ensures bound { result < 4 }
+// What is left of four once the one at r is left out.
+fn without<T: Copy>(four: [T; 4], r: usize) -> [T; 3]
+    ensures { (d : T) → result ≡ slice_index_or four (skip r 0) d ∷ slice_index_or four (skip r 1) d ∷ slice_index_or four (skip r 2) d ∷ [] }
 {
-    if i < r { i } else { i + 1 }
-}
-
-// Row i of the matrix without column c.
-fn row_without(m: [[u8; 4]; 4], i: usize, c: usize) -> [u8; 3]
-    requires { i < 4 }
-    ensures { result ≡ entry m i (skip c 0) ∷ entry m i (skip c 1) ∷ entry m i (skip c 2) ∷ [] }
-{
-    let row = m[i];
-    [row[place(c, 0)], row[place(c, 1)], row[place(c, 2)]]
+    let [a, b, c, d] = four;
+    match r {
+        0 => [b, c, d],
+        1 => [a, c, d],
+        2 => [a, b, d],
+        _ => [a, b, c],
+    }
 }
 
 // The determinant of columns a and b of the last two rows.
 fn det2(t: [[u8; 3]; 3], a: usize, b: usize) -> u8
-    requires { (a < 3) × (b < 3) }
+    requires first { a < 3 }
+    requires second { b < 3 }
     ensures { result ≡ det2 (entry t) a b }
 {
     product(t[1][a], t[2][b]) ^ product(t[1][b], t[2][a])
@@ -43,11 +40,8 @@ fn det3(t: [[u8; 3]; 3]) -> u8
 fn minor(m: [[u8; 4]; 4], r: usize, c: usize) -> u8
     ensures { result ≡ minor m r c }
 {
-    det3([
-        row_without(m, place(r, 0), c),
-        row_without(m, place(r, 1), c),
-        row_without(m, place(r, 2), c),
-    ])
+    let [p, q, s] = without(m, r);
+    det3([without(p, c), without(q, c), without(s, c)])
 }
 
 fn det(m: [[u8; 4]; 4]) -> u8
@@ -63,15 +57,11 @@ fn det(m: [[u8; 4]; 4]) -> u8
 fn inverse_row(m: [[u8; 4]; 4], scale: u8, r: usize) -> [u8; 4]
     ensures { result ≡ line (λ c. times (minor m c r) scale) }
 {
-    [
-        product(minor(m, 0, r), scale),
-        product(minor(m, 1, r), scale),
-        product(minor(m, 2, r), scale),
-        product(minor(m, 3, r), scale),
-    ]
+    array::from_fn(|c| product(minor(m, c, r), scale))
 }
 
 /// The inverse of a matrix that has one.
+#[tactic(auto, unfolding(crate::specs::Matrix::inverted))]
 pub fn inverted(m: [[u8; 4]; 4]) -> [[u8; 4]; 4]
     ensures { result ≡ inverted m }
 {
