@@ -1,7 +1,7 @@
 -- Eight bytes at once: what a word's arithmetic does to each of its bytes.
-use Rattle.std.proofs.Common.{◌≡◌, ℕ, zero, suc, ◌+◌, ◌-◌, ◌*◌, ◌/◌, ◌%◌, ◌^◌, ◌<◌, sym, refl, ap, ◌∙◌, ap₂, le_of_suc-le-suc, not-suc-le-zero, one-mul, zero-mul, div-one, arith}
+use Rattle.std.proofs.Common.{◌≡◌, ℕ, zero, suc, ◌+◌, ◌-◌, ◌*◌, ◌/◌, ◌%◌, ◌^◌, ◌<◌, sym, refl, ap, ◌∙◌, ap₂, le_of_suc-le-suc, not-suc-le-zero, mod-eq_of_lt, one-mul, zero-mul, div-one, arith}
 use native.Mathlib.Nat.{zero-div, div-eq_of_lt}
-use lib.Bits.{bit_and, bit_xor, and_block, and_mask, xor_block, xor_shr, xor_mod, xor_zero_r}
+use lib.Bits.{bit_and, bit_xor, and_le_r, and_block, and_mask, xor_block, xor_shr, xor_mod, xor_zero_r}
 use Rattle.std.proofs.lemmas.Nat.{shr-shr}
 use Rattle.field.specs.Polynomials.{sum, coefficient, twice, times_low, times, dot, byte}
 use Rattle.field.proofs.Tested.{same_below}
@@ -76,9 +76,11 @@ byte_each (suc n) w (suc b) h =
     ∙ ap (λ x. byte (x / 256) b) (each_more n (w / 256) (w % 256) (omega arith)) ∙ ap (λ x. byte x b) d
     ∙ byte_each n (w / 256) b (le_of_suc-le-suc h) ∙ ap twice (sym (byte_next w b))
 
-pub doubled : (w b : ℕ) → b < 8 → byte (bit_xor (bit_and w 0x7f7f7f7f7f7f7f7f * 2) (bit_and (w / 128) 0x0101010101010101 * 29)) b ≡ twice (byte w b)
+pub doubled : (w x b : ℕ) → x ≡ bit_and (w / 128) 0x0101010101010101 * 29 → b < 8 → byte (bit_xor (bit_and w 0x7f7f7f7f7f7f7f7f * 2 % 18446744073709551616) x) b ≡ twice (byte w b)
 unfolding ones each
-doubled w b h = byte_each 8 w b h
+doubled w x b e h =
+    let le = and_le_r w 0x7f7f7f7f7f7f7f7f in
+    ap (λ y. byte y b) (ap₂ bit_xor (mod-eq_of_lt (omega arith)) e) ∙ byte_each 8 w b h
 
 -- sums of words, byte by byte
 

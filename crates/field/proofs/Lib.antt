@@ -1,4 +1,5 @@
 pub mod Tested
+pub mod Bits
 pub mod Linear
 pub mod Proved
 pub mod Lanes

@@ -1,5 +1,5 @@
 -- Matrices of four rows and four columns over the field of bytes, as lists of their rows.
-use Rattle.std.specs.Prelude.{ℕ, ◌+◌, Bool, cond, ◌&&◌, ltb, List, [], ◌∷◌, ◌==◌, bit_xor, nat_eq, nat_lt, slice_index, slice_index_or}
+use Rattle.std.specs.Prelude.{ℕ, ◌+◌, Bool, cond, ◌&&◌, List, [], ◌∷◌, ◌==◌, bit_xor, nat_eq, nat_lt, slice_index, slice_index_or}
 use Rattle.field.specs.Tested.{below}
 use Rattle.field.specs.Polynomials.{times, dot, line, inverse}
 
@@ -45,7 +45,7 @@ undone a b = below (λ r. below (λ c. nat_eq (dot (entry a r) (λ j. entry b j 
 
 -- The first n rows hold bytes.
 abbrev pub all_bytes : ℕ → List (List ℕ) → Bool
-all_bytes n m = below (λ r. below (λ c. ltb (entry m r c) 256) 4) n
+all_bytes n m = below (λ r. below (λ c. nat_lt (entry m r c) 256) 4) n
 
 -- The matrix s holds bytes and is the inverse of m, on both sides.
 abbrev pub inverses : List (List ℕ) → List (List ℕ) → Bool

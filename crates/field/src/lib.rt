@@ -21,6 +21,7 @@ fn overflow_each(word: u64) -> u64
 }
 
 /// x times each byte of a word.
+#[tactic(auto, using(crate::proofs::Lanes::doubled))]
 pub fn double_each(word: u64) -> u64
     ensures { (b : ℕ) → b < 8 → byte result b ≡ twice (byte word b) }
 {
@@ -60,6 +61,7 @@ impl Bit {
     }
 
     // A word, or 0, by a mask and not by a branch.
+    #[tactic(auto, using(crate::proofs::Bits::masked))]
     fn masked(self, word: u64) -> u64
         ensures { result ≡ self.value * word }
     {
@@ -75,6 +77,7 @@ fn extended(sum: u8, u: Bit, b: u8) -> u8
 }
 
 /// The product of two bytes.
+#[tactic(auto, using(crate::proofs::Proved::horner, crate::proofs::Proved::horner_ends, crate::proofs::Proved::field_laws))]
 pub fn product(a: u8, b: u8) -> u8
     ensures value { result ≡ times a b }
     ensures field { FieldLaws }
@@ -93,6 +96,7 @@ fn square(a: u8) -> u8
     product(a, a)
 }
 
+#[tactic(auto, unfolding(crate::specs::Polynomials::inverse))]
 /// The byte that makes 1 of a, and 0 for 0: a to the power 254 = 2 + 4 + .. + 128.
 pub fn inverse(a: u8) -> u8
     ensures { result ≡ inverse a }
@@ -122,6 +126,7 @@ fn added(words: [u64; 4]) -> u64
 }
 
 // How many of the eight coefficients, from the lowest on, some factor may have.
+#[tactic(auto, using(crate::proofs::Bits::under))]
 fn used(factors: [u8; 4]) -> u32
     ensures most { result ≤ 8 }
     ensures none { (j : ℕ) → j < 4 → slice_index factors j < 2 ^ result }
