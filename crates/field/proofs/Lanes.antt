@@ -1,9 +1,10 @@
 -- Eight bytes at once: what a word's arithmetic does to each of its bytes.
-use Rattle.std.proofs.Common.{◌≡◌, ℕ, zero, suc, ◌+◌, ◌-◌, ◌*◌, ◌/◌, ◌%◌, ◌^◌, ◌<◌, sym, refl, ap, ◌∙◌, ap₂, le_of_suc-le-suc, not-suc-le-zero, mod-eq_of_lt, one-mul, zero-mul, div-one, arith}
+use Rattle.std.proofs.Common.{◌≡◌, ℕ, zero, suc, ◌+◌, ◌-◌, ◌*◌, ◌/◌, ◌%◌, ◌^◌, ◌<◌, List, get_or, sym, refl, ap, ◌∙◌, ap₂, le_of_suc-le-suc, not-suc-le-zero, mod-eq_of_lt, one-mul, zero-mul, div-one, arith}
 use native.Mathlib.Nat.{zero-div, div-eq_of_lt}
 use lib.Bits.{bit_and, bit_xor, and_le_r, and_block, and_mask, xor_block, xor_shr, xor_mod, xor_zero_r}
 use Rattle.std.proofs.lemmas.Nat.{shr-shr}
-use Rattle.field.specs.Polynomials.{sum, coefficient, twice, times_low, times, dot, byte}
+use Rattle.std.specs.List.{fold}
+use Rattle.field.specs.Polynomials.{sum, coefficient, twice, times_low, times, dot, line, byte}
 use Rattle.field.proofs.Tested.{same_below}
 use Rattle.field.proofs.Linear.{Linear, after, low, of_zero, xor_swap}
 use Rattle.field.proofs.Proved.{twice_linear, times_low_linear_l, twice_byte, horner, horner_ends}
@@ -104,40 +105,41 @@ pub of_sum : (f : ℕ → ℕ) → Linear f → (n : ℕ) (g : ℕ → ℕ) → 
 of_sum f l zero g = of_zero f l
 of_sum f l (suc n) g = l (sum n g) (g n) ∙ ap (λ x. bit_xor x (f (g n))) (of_sum f l n g)
 
--- the sum of four products, by the coefficients of the first factors from x^i on
-abbrev pub dot_high : ℕ → (ℕ → ℕ) → (ℕ → ℕ) → ℕ
-dot_high i u v = sum 4 (λ j. times_low (8 - i) (u j / 2 ^ i) (v j))
-
 pub sum_none : (n : ℕ) → sum n (λ j. 0) ≡ 0
 sum_none zero = refl
 sum_none (suc n) = xor_zero_r (sum n (λ j. 0)) ∙ sum_none n
 
-pub dot_starts : (i b : ℕ) (u v : ℕ → ℕ) → ((j : ℕ) → j < 4 → u j < 2 ^ i) → byte 0 b ≡ dot_high i u v
-dot_starts i b u v small =
+-- the sum of the products of four factors and byte b of four words, by the coefficients of the factors from x^i on
+pub high : List ℕ → List ℕ → ℕ → ℕ → ℕ
+high us ws b i = sum 4 (λ j. times_low (8 - i) (get_or us j 0 / 2 ^ i) (byte (get_or ws j 0) b))
+
+pub high_starts : (us ws : List ℕ) (b i : ℕ) → ((j : ℕ) → j < 4 → get_or us j 0 < 2 ^ i) → byte 0 b ≡ high us ws b i
+unfolding high
+high_starts us ws b i small =
     ap (λ x. x % 256) (zero-div (2 ^ (8 * b))) ∙ sym (sum_none 4)
-    ∙ sum_same 4 (λ j. 0) (λ j. times_low (8 - i) (u j / 2 ^ i) (v j))
+    ∙ sum_same 4 (λ j. 0) (λ j. times_low (8 - i) (get_or us j 0 / 2 ^ i) (byte (get_or ws j 0) b))
     (λ j h.
-    sym
-    (ap (λ p. times_low (8 - i) p (v j)) (div-eq_of_lt (small j h)) ∙ of_zero (λ p. times_low (8 - i) p (v j)) (times_low_linear_l (8 - i) (v j))))
+    let of : ℕ → ℕ = λ p. times_low (8 - i) p (byte (get_or ws j 0) b) in
+    sym (ap of (div-eq_of_lt (small j h)) ∙ of_zero of (times_low_linear_l (8 - i) (byte (get_or ws j 0) b))))
 
-pub dot_more : (i k : ℕ) (u v : ℕ → ℕ) → i ≡ k + 1 → k < 8 → bit_xor (twice (dot_high i u v)) (sum 4 (λ j. coefficient (u j) k * v j)) ≡ dot_high k u v
-dot_more i k u v e h =
-    let above : ℕ → ℕ = λ j. times_low (8 - i) (u j / 2 ^ i) (v j) in
-    let here : ℕ → ℕ = λ j. coefficient (u j) k * v j in
-    ap (λ x. bit_xor x (sum 4 here)) (of_sum twice twice_linear 4 above) ∙ sym (sum_xor 4 (λ j. twice (above j)) here)
-    ∙ sum_same 4 (λ j. bit_xor (twice (above j)) (here j)) (λ j. times_low (8 - k) (u j / 2 ^ k) (v j)) (λ j hj. horner i k (u j) (v j) e h)
+-- one more coefficient
+pub high_more : (us ws : List ℕ) (b i k acc twofold more : ℕ) → i ≡ k + 1 → k < 8 → byte acc b ≡ high us ws b i → byte twofold b ≡ twice (byte acc b)
+    → more ≡ fold bit_xor 0 (line (λ j. coefficient (get_or us j 0) k * get_or ws j 0)) → byte (bit_xor twofold more) b ≡ high us ws b k
+unfolding high
+high_more us ws b i k acc twofold more e h before d m =
+    let v : ℕ → ℕ = λ j. byte (get_or ws j 0) b in
+    let above : ℕ → ℕ = λ j. times_low (8 - i) (get_or us j 0 / 2 ^ i) (v j) in
+    let u : ℕ → ℕ = λ j. coefficient (get_or us j 0) k in
+    let word : ℕ → ℕ = λ j. u j * get_or ws j 0 in
+    byte_linear b twofold more
+    ∙ ap₂ bit_xor (d ∙ ap twice before ∙ of_sum twice twice_linear 4 above)
+    (ap (λ x. byte x b) m ∙ of_sum (λ x. byte x b) (byte_linear b) 4 word
+    ∙ sum_same 4 (λ j. byte (word j) b) (λ j. u j * v j) (λ j hj. byte_bit (u j) (get_or ws j 0) b (low (get_or us j 0 / 2 ^ k))))
+    ∙ sym (sum_xor 4 (λ j. twice (above j)) (λ j. u j * v j))
+    ∙ sum_same 4 (λ j. bit_xor (twice (above j)) (u j * v j)) (λ j. times_low (8 - k) (get_or us j 0 / 2 ^ k) (v j)) (λ j hj. horner i k (get_or us j 0) (v j) e h)
 
-pub dot_ends : (i : ℕ) (u v : ℕ → ℕ) → i ≡ 0 → dot_high i u v ≡ dot u v
-dot_ends i u v e =
-    sum_same 4 (λ j. times_low (8 - i) (u j / 2 ^ i) (v j)) (λ j. times (u j) (v j)) (λ j h. horner_ends i (u j) (v j) e)
-
--- what one more coefficient does to each byte
-pub lane : (i k b : ℕ) (u w : ℕ → ℕ) (acc doubled : ℕ) → i ≡ k + 1 → k < 8 → byte doubled b ≡ twice (byte acc b) → byte acc b ≡ dot_high i u (λ j. byte (w j) b)
-    → byte (bit_xor doubled (sum 4 (λ j. coefficient (u j) k * w j))) b ≡ dot_high k u (λ j. byte (w j) b)
-lane i k b u w acc doubled e h d inv =
-    byte_linear b doubled (sum 4 (λ j. coefficient (u j) k * w j))
-    ∙ ap₂ bit_xor (d ∙ ap twice inv)
-    (of_sum (λ x. byte x b) (byte_linear b) 4 (λ j. coefficient (u j) k * w j)
-    ∙ sum_same 4 (λ j. byte (coefficient (u j) k * w j) b) (λ j. coefficient (u j) k * byte (w j) b)
-    (λ j hj. byte_bit (coefficient (u j) k) (w j) b (low (u j / 2 ^ k))))
-    ∙ dot_more i k u (λ j. byte (w j) b) e h
+pub high_ends : (us ws : List ℕ) (b i : ℕ) → i ≡ 0 → high us ws b i ≡ dot (λ j. get_or us j 0) (λ j. byte (get_or ws j 0) b)
+unfolding high
+high_ends us ws b i e =
+    sum_same 4 (λ j. times_low (8 - i) (get_or us j 0 / 2 ^ i) (byte (get_or ws j 0) b)) (λ j. times (get_or us j 0) (byte (get_or ws j 0) b))
+    (λ j h. horner_ends i (get_or us j 0) (byte (get_or ws j 0) b) e)

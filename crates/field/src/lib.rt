@@ -96,8 +96,8 @@ fn square(a: u8) -> u8
     product(a, a)
 }
 
-#[tactic(auto, unfolding(crate::specs::Polynomials::inverse))]
 /// The byte that makes 1 of a, and 0 for 0: a to the power 254 = 2 + 4 + .. + 128.
+#[tactic(auto, unfolding(crate::specs::Polynomials::inverse))]
 pub fn inverse(a: u8) -> u8
     ensures { result ≡ inverse a }
 {
@@ -138,6 +138,7 @@ fn used(factors: [u8; 4]) -> u32
 }
 
 /// The sum of four words, where each byte of a word is multiplied by the word's factor.
+#[tactic(auto, using(crate::proofs::Lanes::high_starts, crate::proofs::Lanes::high_more, crate::proofs::Lanes::high_ends))]
 pub fn combined(factors: [u8; 4], words: [u64; 4]) -> u64
     ensures { (b : ℕ) → b < 8 → byte result b ≡ dot (λ j. slice_index factors j) (λ j. byte (slice_index words j) b) }
 {
