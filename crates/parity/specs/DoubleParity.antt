@@ -24,6 +24,10 @@ double_parity =
 abbrev pub rises : ℕ → ℕ → ℕ → ℕ → Bool
 rises a b c d = nat_lt a b && (nat_lt b c && (nat_lt c d && nat_lt d 6))
 
+-- The numbers in a list are four rising ones below 6.
+abbrev pub rising : List ℕ → Bool
+rising is = rises (slice_index is 0) (slice_index is 1) (slice_index is 2) (slice_index is 3)
+
 -- The place of four rising numbers among all such choices. Before it come the choices of four below d, then of three below c,
 -- of two below b, and of one below a.
 abbrev pub rank : ℕ → ℕ → ℕ → ℕ → ℕ

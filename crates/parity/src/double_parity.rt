@@ -1,7 +1,8 @@
 // The double parity of RAID 6: pieces 0 to 3 are the rows of a record, piece 4 is their sum, and piece 5 the sum of 1, 2, 4
 // and 8 times the rows.
-ghost use Rattle.std.specs.Prelude.{◌≡◌, ◌<◌, refl, [], slice_index_or};
-ghost use Rattle.parity.specs.DoubleParity.{double_parity, rises, rank, solutions};
+ghost use Rattle.std.specs.Prelude.{◌≡◌, ◌<◌, refl, [], IsTrue, if◌then◌else◌, slice_index_or};
+ghost use Rattle.std.specs.Option.{option_map};
+ghost use Rattle.parity.specs.DoubleParity.{double_parity, rising, rank_of, solutions};
 ghost use Rattle.field.specs.Polynomials.{twice, times, inverse};
 ghost use Rattle.field.specs.Matrix.{inverted};
 ghost use Rattle.parity.specs.Solvable.{solvable};
@@ -79,27 +80,44 @@ static SOLUTIONS: [[[u8; 4]; 4]; 15] = [
     ], // 2, 3, 4, 5
 ];
 
-// Whether the numbers are four rising ones that the code has.
-fn are_rising(a: u8, b: u8, c: u8, d: u8) -> bool
-    ensures { result ≡ rises a b c d }
-{
-    a < b && b < c && c < d && d < 6
+// Four rising numbers that the code has.
+#[derive(Clone, Copy)]
+struct Choice {
+    numbers: [u8; 4],
+    ghost rising: { IsTrue (rising numbers) },
 }
 
-// Where four rising numbers stand among all.
-fn rank(a: u8, b: u8, c: u8, d: u8) -> usize
-    requires { (b < 6) × ((c < 6) × (d < 6)) }
-    ensures { result ≡ rank a b c d }
-{
-    a as usize + PAIRS[b as usize] + TRIPLES[c as usize] + QUADRUPLES[d as usize]
-}
+impl Choice {
+    // The choice of these numbers, if they are one.
+    fn of(numbers: [u8; 4]) -> Option<Choice>
+        ensures { option_map (λ c. c.numbers) result ≡ (if rising numbers then Some numbers else None) }
+    {
+        let [a, b, c, d] = numbers;
+        if a < b && b < c && c < d && d < 6 {
+            Some(Choice { numbers })
+        } else {
+            None
+        }
+    }
 
-// The inverse of the factors of the pieces of a rank.
-fn solution_at(place: usize) -> [[u8; 4]; 4]
-    requires { place < 15 }
-    ensures { result ≡ slice_index_or solutions place [] }
-{
-    SOLUTIONS[place]
+    // Where the choice stands among all.
+    fn rank(self) -> usize
+        ensures value { result ≡ rank_of self.numbers }
+        ensures bound { result < 15 }
+    {
+        let [a, b, c, d] = self.numbers;
+        usize::from(a)
+            + PAIRS[usize::from(b)]
+            + TRIPLES[usize::from(c)]
+            + QUADRUPLES[usize::from(d)]
+    }
+
+    // The inverse of the factors of its pieces.
+    fn solution(self) -> [[u8; 4]; 4]
+        ensures { result ≡ slice_index_or solutions (rank_of self.numbers) [] }
+    {
+        SOLUTIONS[self.rank()]
+    }
 }
 
 /// The factors of the double parity.
@@ -121,19 +139,13 @@ impl Factors for DoubleParity {
     ghost n_is = { refl };
 
     fn factors(number: u8) -> [u8; 4] {
-        if number < 6 {
-            FACTORS[number as usize]
-        } else {
-            [0; 4]
-        }
+        FACTORS.get(usize::from(number)).copied().unwrap_or([0; 4])
     }
 
     fn solution(numbers: [u8; 4]) -> [[u8; 4]; 4] {
-        let [a, b, c, d] = numbers;
-        if are_rising(a, b, c, d) {
-            solution_at(rank(a, b, c, d))
-        } else {
-            [[0; 4]; 4]
+        match Choice::of(numbers) {
+            Some(choice) => choice.solution(),
+            None => [[0; 4]; 4],
         }
     }
 }

@@ -1,9 +1,11 @@
 // A record as four rows of six bytes.
 ghost use Rattle.std.specs.Prelude.{◌≡◌, ℕ, ◌<◌, take, slice_index};
+ghost use Rattle.std.specs.List.{flat_map};
 ghost use Rattle.field.specs.Polynomials.{byte};
-ghost use Rattle.parity.specs.Rows.{six, rows_of, listed, flat, combination, combinations};
+ghost use Rattle.parity.specs.Rows.{six, row_byte, rows_of, listed, flat, combination, combinations};
 
 use field::combined;
+use std::array;
 
 /// A quarter of a record.
 #[derive(Clone, Copy)]
@@ -21,6 +23,16 @@ pub struct Rows {
 }
 
 impl Row {
+    // Row j of a record.
+    fn at(x: [u8; 24], j: usize) -> Row
+        requires { j < 4 }
+        ensures { result.bytes ≡ six (row_byte x j) }
+    {
+        Row {
+            bytes: array::from_fn(|b| x[j * 6 + b]),
+        }
+    }
+
     // The row as the six low bytes of a word, which holds them all at once.
     fn word(self) -> u64
         ensures { (b : ℕ) → b < 6 → byte result b ≡ slice_index self.bytes b }
@@ -49,24 +61,25 @@ impl Row {
     }
 }
 
+// Four rows in one array.
+fn joined(rows: [[u8; 6]; 4]) -> [u8; 24]
+    ensures { result ≡ flat_map (λ row. row) rows }
+{
+    let mut whole = [0; 24];
+    whole.copy_from_slice(rows.as_flattened());
+    whole
+}
+
 impl Rows {
     /// The rows of a record.
     pub fn of(x: [u8; 24]) -> Rows
         ensures { result ≡ rows_of x }
     {
         Rows {
-            first: Row {
-                bytes: [x[0], x[1], x[2], x[3], x[4], x[5]],
-            },
-            second: Row {
-                bytes: [x[6], x[7], x[8], x[9], x[10], x[11]],
-            },
-            third: Row {
-                bytes: [x[12], x[13], x[14], x[15], x[16], x[17]],
-            },
-            fourth: Row {
-                bytes: [x[18], x[19], x[20], x[21], x[22], x[23]],
-            },
+            first: Row::at(x, 0),
+            second: Row::at(x, 1),
+            third: Row::at(x, 2),
+            fourth: Row::at(x, 3),
         }
     }
 
@@ -78,10 +91,7 @@ impl Rows {
         let b = self.second.bytes;
         let c = self.third.bytes;
         let d = self.fourth.bytes;
-        [
-            a[0], a[1], a[2], a[3], a[4], a[5], b[0], b[1], b[2], b[3], b[4], b[5], //
-            c[0], c[1], c[2], c[3], c[4], c[5], d[0], d[1], d[2], d[3], d[4], d[5],
-        ]
+        joined([a, b, c, d])
     }
 
     /// The sum of the rows, each times its factor.
