@@ -143,10 +143,7 @@ impl Factors for DoubleParity {
     }
 
     fn solution(numbers: [u8; 4]) -> [[u8; 4]; 4] {
-        match Choice::of(numbers) {
-            Some(choice) => choice.solution(),
-            None => [[0; 4]; 4],
-        }
+        Choice::of(numbers).map_or([[0; 4]; 4], Choice::solution)
     }
 }
 

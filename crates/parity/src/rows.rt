@@ -52,6 +52,7 @@ impl Row {
     }
 
     // The row in front of 18 bytes that do not count.
+    #[tactic(auto, using(crate::proofs::Fronts::front))]
     pub(crate) fn widened(self) -> [u8; 24]
         ensures { take 6 result ≡ self.bytes }
     {

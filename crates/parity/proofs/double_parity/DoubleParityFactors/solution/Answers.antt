@@ -1,5 +1,7 @@
-use Rattle.std.proofs.Common.{◌≡◌, ℕ, Bool, true, false, cond, T, List, [], Option, Some, None, get_or, sym, ap, ◌∙◌, subst}
+use Rattle.std.proofs.Common.{◌≡◌, ℕ, Bool, true, false, cond, T, List, [], Option, Some, None, get_or, sym, ap, ◌∙◌, subst, rules}
+use Rattle.std.specs.Option.{option_map, MatchOption}
 use Rattle.code.specs.Meaning.{Chosen}
+use Rattle.parity.specs.declared.double_parity.Choice.{Choice}
 use Rattle.field.specs.Polynomials.{twice, times}
 use Rattle.field.specs.Matrix.{inverses}
 use Rattle.parity.specs.Rows.{chosen_rows}
@@ -20,12 +22,15 @@ passed : (b : Bool) (is : List ℕ) (o : Option (List ℕ)) → T b → o ≡ co
 passed true is o t e = e
 passed false is o t e = absurd t
 
-pub returns-in-Some : goal.returns-in-Some
-returns-in-Some c h =
-    let is = c.args.numbers in
-    let some : Some c.in-Some.choice.numbers ≡ Some is = passed (rising is) is _ (chosen_rise is h) c.in-Some.ensures in
-    let same : c.in-Some.choice.numbers ≡ is = cc in
-    subst (λ s. T (inverses (chosen_rows double_parity is) s)) (sym (c.solution.ensures ∙ ap (λ js. get_or solutions (rank_of js) []) same)) (table is h)
+-- so the choice is there, and holds them
+picked : (o : Option Choice) (is : List ℕ) (P : Type 0) (Q : Choice → Type 0) (R : Type 0) → option_map (λ (c : Choice). c.numbers) o ≡ Some is → MatchOption o P Q → ((c : Choice) → c.numbers ≡ is → Q c → R) → R
+picked None is P Q R e m f = absurd cc
+picked (Some c) is P Q R e m f = f c (cc) m
 
-pub returns-in-None : goal.returns-in-None
-returns-in-None c h = let none : None ≡ Some c.args.numbers = passed (rising c.args.numbers) c.args.numbers _ (chosen_rise c.args.numbers h) c.in-None.ensures in absurd cc
+pub returns : goal.returns
+returns c h =
+    let is = c.args.numbers in
+    picked c.of.result is _ _ _ (passed (rising is) is _ (chosen_rise is h) c.of.ensures) c.map_or.ensures
+    (λ choice same call.
+    let found : c.map_or.result ≡ get_or solutions (rank_of choice.numbers) [] = search rules in
+    subst (λ s. T (inverses (chosen_rows double_parity is) s)) (sym (found ∙ ap (λ js. get_or solutions (rank_of js) []) same)) (table is h))
