@@ -3,3 +3,5 @@ pub mod Whole
 pub mod Scaling
 pub mod Sameness
 pub mod Order
+pub mod Printable
+pub mod Placing

@@ -1,10 +1,10 @@
 -- Values in ten-thousandths are equal exactly if the fractions are. Assumes nothing.
 use Rattle.std.proofs.Common.{◌≡◌, ℕ, zero, suc, ◌+◌, ◌-◌, ◌*◌, ◌^◌, ◌<◌, ◌≤◌, Bool, true, false, eqb, ℤ, pos, negsuc, ◌*ℤ◌, neg_ℤ, ◌≤ℤ◌, sym, refl, ap, ◌∙◌, subst, not-suc-le-zero, mul_assoc, mul_comm, mul-le-mul, zero-mul, mul-one, arith, lit<, leb→le, pow-add, w64, SFits, of_z}
-use native.Mathlib.Nat.{one-le-pow, eq_of_mul-eq-mul_right}
+use native.Mathlib.Nat.{one-le-pow, pow-le-pow_right, eq_of_mul-eq-mul_right}
 use lib.Signed.{mag}
 use Rattle.std.proofs.lemmas.Bool.{eqb-true, eq-eqb, ne_eqb}
 use Rattle.record.specs.Values.{scaled, eqℤ, equal}
-use Rattle.record.specs.Tens.{ten_thousandths}
+use Rattle.record.specs.Tens.{raised, ten_thousandths}
 
 -- ---- tests of equality
 
@@ -112,7 +112,13 @@ module _ (n e m d : ℤ) (le : negsuc 3 ≤ℤ e) (ld : negsuc 3 ≤ℤ d) where
   pub tens_tell : eqℤ (ten_thousandths n e) (ten_thousandths m d) ≡ equal (scaled n e) (scaled m d)
   tens_tell = alike _ _ (λ t. eq_eqℤ _ _ (forth (eqℤ_true _ _ t))) (λ t. eq_eqℤ _ _ (back (eqℤ_true _ _ t)))
 
--- ---- the product of a number and a power fits 64 bits
+-- ---- the power is at most 10^8, and its product with a number fits 64 bits
+
+pub power_bound : (e : ℤ) → negsuc 3 ≤ℤ e → e ≤ℤ pos 4 → 10 ^ raised e ≤ 100000000
+power_bound e l h = pow-le-pow_right {n = 10} (lit< tt) (small e l h) where
+  small : (e : ℤ) → negsuc 3 ≤ℤ e → e ≤ℤ pos 4 → raised e ≤ 8
+  small (pos n) l h = let s = leb→le n 4 h.le in omega arith
+  small (negsuc n) l h = omega arith
 
 pub product_fits : (z : ℤ) (p : ℕ) → negsuc 8999999 ≤ℤ z → z ≤ℤ pos 9000000 → p ≤ 100000000 → SFits w64 (z *ℤ pos p)
 product_fits (pos n) p l h b =
@@ -128,3 +134,7 @@ product_fits (negsuc n) p l h b =
     small : (q : ℕ) → q ≤ 9000000 * 100000000 → mag (neg_ℤ (pos q)) < 2 ^ 63
     small zero k = omega arith
     small (suc q) k = omega arith
+
+-- so a value in ten-thousandths fits
+pub value_fits : (n e : ℤ) → negsuc 8999999 ≤ℤ n → n ≤ℤ pos 9000000 → negsuc 3 ≤ℤ e → e ≤ℤ pos 4 → SFits w64 (ten_thousandths n e)
+value_fits n e l h p q = product_fits n (10 ^ raised e) l h (power_bound e p q)

@@ -1,5 +1,6 @@
 -- The ranges that every record keeps. Assumes nothing.
-use Rattle.std.specs.Prelude.{ℕ, Bool, true, ◌&&◌, List, [], ◌∷◌, length, ℤ, pos, negsuc, ◌==◌, int_le, nat_le}
+use Rattle.std.specs.Prelude.{ℕ, Bool, true, ◌&&◌, ◌-◌, List, [], ◌∷◌, length, take, ℤ, pos, negsuc, ◌==◌, int_le, nat_le}
+use Rattle.std.specs.List.{suffix_len}
 
 -- The number z is at least low and at most high.
 abbrev pub within : ℤ → ℤ → ℤ → Bool
@@ -21,3 +22,7 @@ printable (b ∷ bs) = (nat_le 32 b && nat_le b 126) && printable bs
 -- A name is sixteen printable bytes.
 abbrev pub named : List ℕ → Bool
 named x = length x == 16 && printable x
+
+-- A name as it is shown: without its ending spaces.
+abbrev pub shown : List ℕ → List ℕ
+shown x = take (length x - suffix_len (λ b. b == 32) x) x

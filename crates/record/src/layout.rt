@@ -17,23 +17,23 @@ impl Record {
         ensures rewrites { IfOk result (λ x. layout x ≡ bytes.now) }
         ensures rereads { Rereads bytes.now result }
     {
-        if bytes.len() != 24 {
-            return Err(RecordError::Length);
+        match bytes.try_into() {
+            Ok(bytes) => Record::read(bytes),
+            Err(_) => Err(RecordError::Length),
         }
-        Record::read(bytes)
     }
 
     // The record whose parts lie where the layout has them.
-    fn read(bytes: &[u8]) -> Result<Record, RecordError>
-        requires { length bytes.now ≡ 24 }
-        ensures refuses { refused result ≡ parts_refusal (parts_at bytes.now) }
-        ensures holds { IfOk result (λ x. parts_of x ≡ parts_at bytes.now) }
+    fn read(bytes: [u8; 24]) -> Result<Record, RecordError>
+        ensures refuses { refused result ≡ parts_refusal (parts_at bytes) }
+        ensures holds { IfOk result (λ x. parts_of x ≡ parts_at bytes) }
     {
-        let parameter = u16::from_be_bytes([bytes[0], bytes[1]]);
-        let unit = Unit::from_code(bytes[2]);
-        let exponent = i8::from_be_bytes([bytes[3]]);
-        let number = i32::from_be_bytes([bytes[20], bytes[21], bytes[22], bytes[23]]);
-        Record::of_parts(parameter, unit, exponent as i32, &bytes[4..20], number)
+        let [p0, p1, unit, exponent, .., n0, n1, n2, n3] = bytes;
+        let parameter = u16::from_be_bytes([p0, p1]);
+        let unit = Unit::try_from(unit)?;
+        let exponent = i8::from_be_bytes([exponent]);
+        let number = i32::from_be_bytes([n0, n1, n2, n3]);
+        Record::of_parts(parameter, unit, i32::from(exponent), &bytes[4..20], number)
     }
 
     /// The 24 bytes of the record.
@@ -51,7 +51,7 @@ impl Record {
     {
         let [high, low] = self.parameter.to_be_bytes();
         let [exponent] = self.exponent.value.to_be_bytes();
-        [high, low, self.unit.code(), exponent]
+        [high, low, u8::from(self.unit), exponent]
     }
 }
 
@@ -60,18 +60,16 @@ impl Record {
 pub fn lying_in(bytes: &[u8]) -> Option<Record>
     ensures { option_map layout result ≡ lying_in bytes.now }
 {
-    match Record::from_bytes(bytes) {
-        Ok(found) => Some(found),
-        Err(_) => None,
-    }
+    Record::from_bytes(bytes).ok()
 }
 
 // Four, sixteen and four bytes.
-fn one_after_the_other(h: [u8; 4], n: [u8; 16], t: [u8; 4]) -> [u8; 24]
-    ensures { result ≡ listed 4 h ++ (listed 16 n ++ listed 4 t) }
+fn one_after_the_other(head: [u8; 4], name: [u8; 16], number: [u8; 4]) -> [u8; 24]
+    ensures { result ≡ head ++ (name ++ number) }
 {
-    [
-        h[0], h[1], h[2], h[3], n[0], n[1], n[2], n[3], n[4], n[5], n[6], n[7], n[8], n[9], n[10],
-        n[11], n[12], n[13], n[14], n[15], t[0], t[1], t[2], t[3],
-    ]
+    let mut bytes = [0; 24];
+    bytes[..4].copy_from_slice(&head);
+    bytes[4..20].copy_from_slice(&name);
+    bytes[20..24].copy_from_slice(&number);
+    bytes
 }

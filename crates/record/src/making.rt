@@ -1,5 +1,5 @@
 //! Records from their parts.
-ghost use Rattle.std.specs.Prelude.{◌≡◌, ◌≤◌, ◌&&◌, IfOk, nat_le};
+ghost use Rattle.std.specs.Prelude.{◌≡◌, ◌&&◌, IfOk, Some, nat_le};
 ghost use Rattle.record.specs.Ranges.{printable};
 ghost use Rattle.record.specs.Refusals.{refused};
 ghost use Rattle.record.specs.Units.{unit_of};
@@ -15,7 +15,7 @@ impl Exponent {
         ensures refuses { refused result ≡ exponent_refusal value }
         ensures holds { IfOk result (λ x. x.value ≡ value) }
     {
-        if value < -4 || value > 4 {
+        if !(-4..=4).contains(&value) {
             return Err(RecordError::Exponent);
         }
         Ok(Exponent { value: value as i8 })
@@ -28,7 +28,7 @@ impl Number {
         ensures refuses { refused result ≡ number_refusal value }
         ensures holds { IfOk result (λ x. x.value ≡ value) }
     {
-        if value < -9_000_000 || value > 9_000_000 {
+        if !(-9_000_000..=9_000_000).contains(&value) {
             return Err(RecordError::Number);
         }
         Ok(Number { value })
@@ -39,19 +39,14 @@ impl Number {
 fn is_printable(b: u8) -> bool
     ensures { result ≡ (nat_le 32 b && nat_le b 126) }
 {
-    b >= 32 && b <= 126
+    (32..=126).contains(&b)
 }
 
 // Whether each byte is a printable character.
 fn all_printable(bytes: &[u8]) -> bool
     ensures { result ≡ printable bytes.now }
 {
-    for b in bytes {
-        if !is_printable(*b) {
-            return false;
-        }
-    }
-    true
+    bytes.iter().all(|b| is_printable(*b))
 }
 
 impl Name {
@@ -60,12 +55,10 @@ impl Name {
         ensures refuses { refused result ≡ name_refusal bytes.now }
         ensures holds { IfOk result (λ x. x.bytes ≡ bytes.now) }
     {
-        if bytes.len() != 16 || !all_printable(bytes) {
-            return Err(RecordError::Name);
+        match <[u8; 16]>::try_from(bytes) {
+            Ok(bytes) if all_printable(&bytes) => Ok(Name { bytes }),
+            _ => Err(RecordError::Name),
         }
-        let mut copy = [0; 16];
-        copy.copy_from_slice(bytes);
-        Ok(Name { bytes: copy })
     }
 }
 
@@ -81,30 +74,26 @@ impl Record {
         ensures refuses { refused result ≡ parts_refusal (parts parameter (unit_of letter) exponent name.now number) }
         ensures holds { IfOk result (λ x. parts_of x ≡ parts parameter (unit_of letter) exponent name.now number) }
     {
-        Record::of_parts(parameter, Unit::from_letter(letter), exponent, name, number)
+        Record::of_parts(parameter, Unit::try_from(letter)?, exponent, name, number)
     }
 
-    // The parts in the order in which they are refused.
+    // The parts after the unit, in the order in which they are refused.
     pub(crate) fn of_parts(
         parameter: u16,
-        unit: Option<Unit>,
+        unit: Unit,
         exponent: i32,
         name: &[u8],
         number: i32,
     ) -> Result<Record, RecordError>
-        ensures refuses { refused result ≡ parts_refusal (parts parameter unit exponent name.now number) }
-        ensures holds { IfOk result (λ x. parts_of x ≡ parts parameter unit exponent name.now number) }
+        ensures refuses { refused result ≡ parts_refusal (parts parameter (Some unit) exponent name.now number) }
+        ensures holds { IfOk result (λ x. parts_of x ≡ parts parameter (Some unit) exponent name.now number) }
     {
-        let unit = unit.ok_or(RecordError::Unit)?;
-        let exponent = Exponent::new(exponent)?;
-        let name = Name::new(name)?;
-        let number = Number::new(number)?;
         Ok(Record {
             parameter,
             unit,
-            exponent,
-            name,
-            number,
+            exponent: Exponent::new(exponent)?,
+            name: Name::new(name)?,
+            number: Number::new(number)?,
         })
     }
 }

@@ -2,19 +2,22 @@
 ghost use Rattle.std.specs.Prelude.{◌≡◌};
 ghost use Rattle.record.specs.Refusals.{refusal};
 
+use std::error::Error;
+use std::fmt;
+
 /// Why something is no record.
 #[derive(Clone, Copy, PartialEq, Eq, Debug)]
 pub enum RecordError {
     /// No such unit.
-    Unit,
+    Unit = 1,
     /// An exponent that is not -4 to 4.
-    Exponent,
+    Exponent = 2,
     /// A name that is not sixteen printable bytes.
-    Name,
+    Name = 3,
     /// A number that is not -9,000,000 to 9,000,000.
-    Number,
+    Number = 4,
     /// Bytes that are not 24.
-    Length,
+    Length = 5,
 }
 
 impl RecordError {
@@ -22,12 +25,20 @@ impl RecordError {
     pub fn number(self) -> u8
         ensures { result ≡ refusal self }
     {
-        match self {
-            RecordError::Unit => 1,
-            RecordError::Exponent => 2,
-            RecordError::Name => 3,
-            RecordError::Number => 4,
-            RecordError::Length => 5,
-        }
+        self as u8
     }
 }
+
+impl fmt::Display for RecordError {
+    fn fmt<W: fmt::Write>(&self, f: &mut fmt::Formatter<W>) -> fmt::Result {
+        f.write_str(match self {
+            RecordError::Unit => "no such unit",
+            RecordError::Exponent => "the exponent is not -4 to 4",
+            RecordError::Name => "the name is not sixteen printable bytes",
+            RecordError::Number => "the number is not -9,000,000 to 9,000,000",
+            RecordError::Length => "the bytes are not 24",
+        })
+    }
+}
+
+impl Error for RecordError {}

@@ -1,6 +1,12 @@
 //! Units, by code and by letter.
-ghost use Rattle.std.specs.Prelude.{◌≡◌};
+ghost use Rattle.std.specs.Prelude.{◌≡◌, Some, ok_or};
+ghost use Rattle.std.specs.Char.{encode_utf8};
+ghost use Rattle.record.specs.declared.refusals.RecordError.TheVariants.{Unit as NoUnit};
 ghost use Rattle.record.specs.Units.{code_of, letter_of, unit_at, unit_of};
+
+use std::fmt;
+
+use crate::refusals::RecordError;
 
 /// The unit of a value. A unit travels as its code, 0 to 7 in this order, and people write its letter.
 #[derive(Clone, Copy, PartialEq, Eq, Debug)]
@@ -15,12 +21,12 @@ pub enum Unit {
     Revolution,
 }
 
-impl Unit {
-    /// The letter that stands for the unit in text.
-    pub fn letter(self) -> char
-        ensures { result ≡ letter_of (code_of self) }
-    {
-        match self {
+/// The letter that stands for the unit in text.
+impl From<Unit> for char {
+    ghost from_gives = { λ unit letter. letter ≡ letter_of (code_of unit) };
+
+    fn from(unit: Unit) -> char {
+        match unit {
             Unit::Plain => '-',
             Unit::Metre => 'm',
             Unit::Bar => 'b',
@@ -31,45 +37,64 @@ impl Unit {
             Unit::Revolution => 'r',
         }
     }
+}
 
-    /// The unit of a letter, if the letter stands for one.
-    pub fn from_letter(letter: char) -> Option<Unit>
-        ensures { result ≡ unit_of letter }
-    {
+/// The unit that a letter stands for, or a refusal.
+impl TryFrom<char> for Unit {
+    type Error = RecordError;
+
+    ghost try_from_gives = { λ letter unit. unit ≡ ok_or (unit_of letter) NoUnit };
+
+    fn try_from(letter: char) -> Result<Self, RecordError> {
         match letter {
-            '-' => Some(Unit::Plain),
-            'm' => Some(Unit::Metre),
-            'b' => Some(Unit::Bar),
-            'C' => Some(Unit::Celsius),
-            's' => Some(Unit::Second),
-            'A' => Some(Unit::Ampere),
-            'V' => Some(Unit::Volt),
-            'r' => Some(Unit::Revolution),
-            _ => None,
+            '-' => Ok(Unit::Plain),
+            'm' => Ok(Unit::Metre),
+            'b' => Ok(Unit::Bar),
+            'C' => Ok(Unit::Celsius),
+            's' => Ok(Unit::Second),
+            'A' => Ok(Unit::Ampere),
+            'V' => Ok(Unit::Volt),
+            'r' => Ok(Unit::Revolution),
+            _ => Err(RecordError::Unit),
         }
     }
+}
 
-    /// The code of the unit in a record's bytes.
-    pub fn code(self) -> u8
-        ensures { result ≡ code_of self }
-    {
-        self as u8
+/// The code of the unit in a record's bytes.
+impl From<Unit> for u8 {
+    ghost from_gives = { λ unit code. code ≡ code_of unit };
+
+    fn from(unit: Unit) -> u8 {
+        unit as u8
     }
+}
 
-    /// The unit of a code, if there is one.
-    pub fn from_code(code: u8) -> Option<Unit>
-        ensures { result ≡ unit_at code }
-    {
+/// The unit of a code, or a refusal.
+impl TryFrom<u8> for Unit {
+    type Error = RecordError;
+
+    ghost try_from_gives = { λ code unit. unit ≡ ok_or (unit_at code) NoUnit };
+
+    fn try_from(code: u8) -> Result<Self, RecordError> {
         match code {
-            0 => Some(Unit::Plain),
-            1 => Some(Unit::Metre),
-            2 => Some(Unit::Bar),
-            3 => Some(Unit::Celsius),
-            4 => Some(Unit::Second),
-            5 => Some(Unit::Ampere),
-            6 => Some(Unit::Volt),
-            7 => Some(Unit::Revolution),
-            _ => None,
+            0 => Ok(Unit::Plain),
+            1 => Ok(Unit::Metre),
+            2 => Ok(Unit::Bar),
+            3 => Ok(Unit::Celsius),
+            4 => Ok(Unit::Second),
+            5 => Ok(Unit::Ampere),
+            6 => Ok(Unit::Volt),
+            7 => Ok(Unit::Revolution),
+            _ => Err(RecordError::Unit),
         }
+    }
+}
+
+/// The letter.
+impl fmt::Display for Unit {
+    ghost output = { λ unit. Some (encode_utf8 (letter_of (code_of unit))) };
+
+    fn fmt<W: fmt::Write>(&self, f: &mut fmt::Formatter<W>) -> fmt::Result {
+        f.write_char(char::from(*self))
     }
 }

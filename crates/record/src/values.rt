@@ -1,37 +1,26 @@
 //! When two records are the same.
-ghost use Rattle.std.specs.Prelude.{◌≡◌, ◌^◌, ◌≤◌};
+ghost use Rattle.std.specs.Prelude.{◌≡◌, ◌^◌, pos};
 ghost use Rattle.record.specs.Values.{Equivalence, equal, same, scaled};
 ghost use Rattle.record.specs.Tens.{raised, ten_thousandths};
 
 use crate::fields::{Exponent, Number, Record};
 
-const POWERS_OF_TEN: [u32; 9] = [
-    1,
-    10,
-    100,
-    1_000,
-    10_000,
-    100_000,
-    1_000_000,
-    10_000_000,
-    100_000_000,
-];
-
 impl Exponent {
     // 10^(exponent + 4)
-    fn raised_power(self) -> u32
-        ensures value { result ≡ 10 ^ raised self.value }
-        ensures bound { result ≤ 100000000 }
+    #[tactic(auto, using(crate::proofs::Scaling::power_bound))]
+    fn raised_power(self) -> i64
+        ensures { result ≡ pos (10 ^ raised self.value) }
     {
-        POWERS_OF_TEN[(self.value + 4) as usize]
+        10_i64.pow((self.value + 4) as u32)
     }
 }
 
 // number × 10^exponent × 10,000: whole for every exponent, and at most 9 × 10^14.
+#[tactic(auto, using(crate::proofs::Scaling::value_fits))]
 fn ten_thousandths(number: Number, exponent: Exponent) -> i64
     ensures { result ≡ ten_thousandths number.value exponent.value }
 {
-    number.value as i64 * exponent.raised_power() as i64
+    i64::from(number.value) * exponent.raised_power()
 }
 
 // Whether n × 10^e equals m × 10^d.
@@ -48,7 +37,7 @@ impl Record {
         ensures { result ≡ same self.now other.now }
     {
         self.parameter == other.parameter
-            && self.unit.code() == other.unit.code()
+            && self.unit == other.unit
             && equal_values(self.number, self.exponent, other.number, other.exponent)
     }
 }
