@@ -4,4 +4,3 @@ pub mod Scaling
 pub mod Sameness
 pub mod Order
 pub mod Printable
-pub mod Placing

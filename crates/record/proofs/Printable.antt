@@ -1,11 +1,12 @@
 -- Printable bytes: as a test of each, and as text. Assumes nothing.
-use Rattle.std.proofs.Common.{◌≡◌, ℕ, zero, suc, ◌-◌, ◌<◌, ◌≤◌, true, false, ◌&&◌, eqb, leb, List, [], ◌∷◌, length, get_or, take, refl, ap, sym, ◌∙◌, subst, arith, lit<, rules}
+use Rattle.std.proofs.Common.{◌≡◌, ℕ, zero, suc, ◌-◌, ◌<◌, ◌≤◌, true, false, ◌&&◌, eqb, leb, List, [], ◌∷◌, length, get_or, take, refl, ap, sym, ◌∙◌, subst, arith, lit<}
 use Rattle.std.specs.Char.{is_ascii_whitespace}
 use Rattle.std.specs.List.{list_all, suffix_len}
 use Rattle.std.specs.Str.{IsUtf8, IsTrimAsciiEnd}
-use Rattle.std.proofs.lemmas.Bool.{and_parts, and_from, eqb-true, eq-eqb, leb-true, ne_eqb}
+use Rattle.std.proofs.lemmas.Bool.{and_parts, and_from, leb-true}
 use Rattle.std.proofs.lemmas.List.Sums.{suffix_len_is}
 use Rattle.std.proofs.lemmas.Str.{IsUtf8-from_ascii}
+use Rattle.record.specs.declared.fields.Name.{Name as Title}
 use Rattle.record.specs.Ranges.{printable, shown}
 
 -- the test of all is that of each
@@ -44,13 +45,17 @@ only_space b l h = grind arith
 no_space : (b : ℕ) → is_ascii_whitespace b ≡ false → eqb b 32 ≡ false
 no_space b h = grind arith
 
--- a name without its ending white space is the name as it is shown, and text
-pub trimmed_shown : (x r : List ℕ) → printable x ≡ true → IsTrimAsciiEnd x r → r ≡ shown x
-trimmed_shown x r h (n, e, long, most, spaces, last) =
-    let s = suffix_len_is (λ b. eqb b 32) x n 0 most (λ k l m. only_space _ (low x h k m) (spaces k l m)) (λ l. no_space _ (last l)) in
-    let k : n ≡ length x - suffix_len (λ b. eqb b 32) x = omega arith in
-    e ∙ ap (λ k. take k x) k
+readable : (x : Title) → printable x.bytes ≡ true
+readable x = (and_parts (eqb (length x.bytes) 16) (printable x.bytes) x.readable).1
 
-pub trimmed_text : (x r : List ℕ) → printable x ≡ true → IsTrimAsciiEnd x r → IsUtf8 r
-trimmed_text x r h (n, e, long, most, spaces, last) =
-    IsUtf8-from_ascii r (λ i. subst (λ s. get_or s i 0 < 128) (sym e) (ascii (take n x) (take_printable n x h) i))
+-- a name without its ending white space is the name as it is shown, and text
+pub trimmed_shown : (x : Title) (r : List ℕ) → IsTrimAsciiEnd x.bytes r → r ≡ shown x.bytes
+trimmed_shown x r (n, e, long, most, spaces, last) =
+    let b = x.bytes in
+    let s = suffix_len_is (λ c. eqb c 32) b n 0 most (λ k l m. only_space _ (low b (readable x) k m) (spaces k l m)) (λ l. no_space _ (last l)) in
+    let k : n ≡ length b - suffix_len (λ c. eqb c 32) b = omega arith in
+    e ∙ ap (λ k. take k b) k
+
+pub trimmed_text : (x : Title) (r : List ℕ) → IsTrimAsciiEnd x.bytes r → IsUtf8 r
+trimmed_text x r (n, e, long, most, spaces, last) =
+    IsUtf8-from_ascii r (λ i. subst (λ s. get_or s i 0 < 128) (sym e) (ascii (take n x.bytes) (take_printable n x.bytes (readable x)) i))

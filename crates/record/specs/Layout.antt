@@ -1,9 +1,8 @@
 -- A record as 24 bytes: 0 and 1 the parameter, 2 the unit's code, 3 the exponent, 4 to 19 the name, 20 to 23 the number.
 -- Numbers of several bytes stand high byte first; exponent and number are in two's complement. Assumes nothing.
-use Rattle.std.specs.Prelude.{◌≡◌, ℕ, ◌+◌, ◌*◌, ◌/◌, ◌%◌, Bool, cond, not, List, [], ◌∷◌, ◌++◌, map, length, take, drop, is_some, Some, None, Ok, Option, Result, ◌==◌, slice_index}
+use Rattle.std.specs.Prelude.{◌≡◌, ℕ, ◌+◌, ◌*◌, ◌/◌, ◌%◌, Bool, cond, not, List, [], ◌∷◌, ◌++◌, length, take, drop, is_some, Some, None, Ok, Option, Result, ◌==◌, slice_index}
 use Rattle.std.specs.Int.{w8, w32}
 use Rattle.std.proofs.Common.{to_z, of_z}
-use Rattle.std.specs.List.{range_with_len}
 use Rattle.record.specs.declared.fields.Record.{Record}
 use Rattle.record.specs.declared.refusals.RecordError.{RecordError}
 use Rattle.record.specs.declared.refusals.RecordError.TheVariants.{Length}
@@ -41,10 +40,6 @@ is_record x = not (is_some (bytes_refusal x))
 -- The bytes, if a record lies in them.
 abbrev pub lying_in : List ℕ → Option (List ℕ)
 lying_in x = cond (is_record x) (Some x) None
-
--- The first n elements of x, one by one.
-abbrev pub listed : ℕ → List ℕ → List ℕ
-listed n x = map (λ k. slice_index x k) (range_with_len 0 n)
 
 -- Record, bytes, record: if a record lies in the bytes, the answer is that record.
 abbrev pub Rereads : List ℕ → Result Record RecordError → Type 0

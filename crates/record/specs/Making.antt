@@ -6,6 +6,9 @@ use Rattle.record.specs.Ranges.{exponent_fits, number_fits, named}
 use Rattle.record.specs.declared.refusals.RecordError.TheVariants.{Unit, Exponent, Name, Number}
 use Rattle.record.specs.Refusals.{check}
 
+abbrev pub unit_refusal : Option Measure → Option ℕ
+unit_refusal u = check (is_some u) Unit None
+
 abbrev pub exponent_refusal : ℤ → Option ℕ
 exponent_refusal z = check (exponent_fits z) Exponent None
 

@@ -3,9 +3,8 @@ ghost use Rattle.std.specs.Prelude.{◌≡◌, true, pos, negsuc, ◌≤ℤ◌, 
 ghost use Rattle.std.specs.Fmt.{signed_decimal};
 ghost use Rattle.record.specs.Ranges.{named, shown};
 
-use std::fmt;
-
 use crate::units::Unit;
+use std::fmt;
 
 /// The decimal exponent of a value, -4 to 4.
 #[derive(Clone, Copy, PartialEq, Eq, PartialOrd, Ord, Debug)]
@@ -45,7 +44,8 @@ impl fmt::Display for Exponent {
     ghost output = { λ x. Some (signed_decimal x.value) };
 
     fn fmt<W: fmt::Write>(&self, f: &mut fmt::Formatter<W>) -> fmt::Result {
-        write!(f, "{}", self.value)
+        let exponent = self.value;
+        write!(f, "{exponent}")
     }
 }
 
@@ -54,7 +54,8 @@ impl fmt::Display for Number {
     ghost output = { λ x. Some (signed_decimal x.value) };
 
     fn fmt<W: fmt::Write>(&self, f: &mut fmt::Formatter<W>) -> fmt::Result {
-        write!(f, "{}", self.value)
+        let number = self.value;
+        write!(f, "{number}")
     }
 }
 

@@ -1,9 +1,9 @@
 //! Records as 24 bytes.
-ghost use Rattle.std.specs.Prelude.{◌≡◌, ◌++◌, length, IfOk};
+ghost use Rattle.std.specs.Prelude.{◌≡◌, ◌+◌, ◌++◌, IfOk};
 ghost use Rattle.std.specs.Option.{option_map};
 ghost use Rattle.record.specs.Refusals.{refused};
 ghost use Rattle.record.specs.Making.{parts_of, parts_refusal};
-ghost use Rattle.record.specs.Layout.{Rereads, bytes_refusal, head_bytes, layout, listed, lying_in, parts_at};
+ghost use Rattle.record.specs.Layout.{Rereads, bytes_refusal, head_bytes, layout, lying_in, parts_at};
 
 use crate::fields::Record;
 use crate::refusals::RecordError;
@@ -37,12 +37,13 @@ impl Record {
     }
 
     /// The 24 bytes of the record.
+    #[tactic(auto, unfolding(crate::specs::Layout::layout), using(crate::proofs::Whole::number_width))]
     pub fn to_bytes(&self) -> [u8; 24]
         ensures { result ≡ layout self.now }
     {
-        let name = self.name.bytes;
         let number = self.number.value.to_be_bytes();
-        one_after_the_other(self.head(), name, number)
+        let rest: [u8; 20] = one_after_the_other(self.name.bytes, number);
+        one_after_the_other(self.head(), rest)
     }
 
     // Parameter, unit and exponent.
@@ -63,13 +64,17 @@ pub fn lying_in(bytes: &[u8]) -> Option<Record>
     Record::from_bytes(bytes).ok()
 }
 
-// Four, sixteen and four bytes.
-fn one_after_the_other(head: [u8; 4], name: [u8; 16], number: [u8; 4]) -> [u8; 24]
-    ensures { result ≡ head ++ (name ++ number) }
+// The bytes of both.
+fn one_after_the_other<const A: usize, const B: usize, const N: usize>(
+    a: [u8; A],
+    b: [u8; B],
+) -> [u8; N]
+    requires { A + B ≡ N }
+    ensures { result ≡ a.entry ++ b.entry }
 {
-    let mut bytes = [0; 24];
-    bytes[..4].copy_from_slice(&head);
-    bytes[4..20].copy_from_slice(&name);
-    bytes[20..24].copy_from_slice(&number);
+    let mut bytes = [0; N];
+    let (first, second) = bytes.split_at_mut(A);
+    first.copy_from_slice(&a);
+    second.copy_from_slice(&b);
     bytes
 }

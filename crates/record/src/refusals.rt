@@ -1,6 +1,6 @@
 //! Why something is no record.
-ghost use Rattle.std.specs.Prelude.{◌≡◌};
-ghost use Rattle.record.specs.Refusals.{refusal};
+ghost use Rattle.std.specs.Prelude.{◌≡◌, Some};
+ghost use Rattle.record.specs.Refusals.{refusal, sentence};
 
 use std::error::Error;
 use std::fmt;
@@ -29,14 +29,17 @@ impl RecordError {
     }
 }
 
+/// What was refused, in a few words.
 impl fmt::Display for RecordError {
+    ghost output = { λ e. Some (sentence e) };
+
     fn fmt<W: fmt::Write>(&self, f: &mut fmt::Formatter<W>) -> fmt::Result {
         f.write_str(match self {
             RecordError::Unit => "no such unit",
             RecordError::Exponent => "the exponent is not -4 to 4",
             RecordError::Name => "the name is not sixteen printable bytes",
             RecordError::Number => "the number is not -9,000,000 to 9,000,000",
-            RecordError::Length => "the bytes are not 24",
+            RecordError::Length => "there are not 24 bytes",
         })
     }
 }

@@ -1,12 +1,13 @@
 //! Units, by code and by letter.
-ghost use Rattle.std.specs.Prelude.{◌≡◌, Some, ok_or};
+ghost use Rattle.std.specs.Prelude.{◌≡◌, Some};
+ghost use Rattle.std.specs.Result.{result_ok};
 ghost use Rattle.std.specs.Char.{encode_utf8};
-ghost use Rattle.record.specs.declared.refusals.RecordError.TheVariants.{Unit as NoUnit};
+ghost use Rattle.record.specs.Refusals.{refused};
+ghost use Rattle.record.specs.Making.{unit_refusal};
 ghost use Rattle.record.specs.Units.{code_of, letter_of, unit_at, unit_of};
 
-use std::fmt;
-
 use crate::refusals::RecordError;
+use std::fmt;
 
 /// The unit of a value. A unit travels as its code, 0 to 7 in this order, and people write its letter.
 #[derive(Clone, Copy, PartialEq, Eq, Debug)]
@@ -43,7 +44,7 @@ impl From<Unit> for char {
 impl TryFrom<char> for Unit {
     type Error = RecordError;
 
-    ghost try_from_gives = { λ letter unit. unit ≡ ok_or (unit_of letter) NoUnit };
+    ghost try_from_gives = { λ letter r. (result_ok r ≡ unit_of letter) × (refused r ≡ unit_refusal (unit_of letter)) };
 
     fn try_from(letter: char) -> Result<Self, RecordError> {
         match letter {
@@ -73,7 +74,7 @@ impl From<Unit> for u8 {
 impl TryFrom<u8> for Unit {
     type Error = RecordError;
 
-    ghost try_from_gives = { λ code unit. unit ≡ ok_or (unit_at code) NoUnit };
+    ghost try_from_gives = { λ code r. (result_ok r ≡ unit_at code) × (refused r ≡ unit_refusal (unit_at code)) };
 
     fn try_from(code: u8) -> Result<Self, RecordError> {
         match code {

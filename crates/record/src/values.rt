@@ -24,6 +24,7 @@ fn ten_thousandths(number: Number, exponent: Exponent) -> i64
 }
 
 // Whether n × 10^e equals m × 10^d.
+#[tactic(auto, using(crate::proofs::Scaling::bits_tell, crate::proofs::Scaling::tens_tell))]
 fn equal_values(n: Number, e: Exponent, m: Number, d: Exponent) -> bool
     ensures { result ≡ equal (scaled n.value e.value) (scaled m.value d.value) }
 {
@@ -44,6 +45,7 @@ impl Record {
 
 /// A theorem, with nothing to run: every record is the same as itself, sameness holds either way
 /// round, and two records that are the same as a third are the same.
+#[tactic(auto, using(crate::proofs::Sameness::same_equivalence))]
 pub fn same_is_an_equivalence()
     ensures { Equivalence same }
 {}
