@@ -23,23 +23,21 @@ fn ten_thousandths(number: Number, exponent: Exponent) -> i64
     i64::from(number.value) * exponent.raised_power()
 }
 
-// Whether n × 10^e equals m × 10^d.
-#[tactic(auto, using(crate::proofs::Scaling::bits_tell, crate::proofs::Scaling::tens_tell))]
-fn equal_values(n: Number, e: Exponent, m: Number, d: Exponent) -> bool
-    ensures { result ≡ equal (scaled n.value e.value) (scaled m.value d.value) }
-{
-    ten_thousandths(n, e) == ten_thousandths(m, d)
-}
-
 impl Record {
     /// Whether two records are the same: parameter and unit agree and the values are equal. 50 with
     /// exponent -1 is the same as 5 with 0; names play no part.
     pub fn same(&self, other: &Record) -> bool
         ensures { result ≡ same self.now other.now }
     {
-        self.parameter == other.parameter
-            && self.unit == other.unit
-            && equal_values(self.number, self.exponent, other.number, other.exponent)
+        self.parameter == other.parameter && self.unit == other.unit && self.same_value(other)
+    }
+
+    // Whether the values are equal, whatever their exponents.
+    #[tactic(auto, using(crate::proofs::Scaling::bits_tell, crate::proofs::Scaling::tens_tell))]
+    fn same_value(&self, other: &Record) -> bool
+        ensures { result ≡ equal (scaled self.now.number.value self.now.exponent.value) (scaled other.now.number.value other.now.exponent.value) }
+    {
+        ten_thousandths(self.number, self.exponent) == ten_thousandths(other.number, other.exponent)
     }
 }
 
