@@ -4,7 +4,7 @@ ghost use Rattle.register.specs.Stamps.{below, same_stamp, higher, lowest};
 ghost use Rattle.node.specs.Stamped.{stamp as stamp_of};
 
 /// A count, and the number of the client that took it. Stamps are ordered by count, then by client.
-#[derive(Clone, Copy, PartialEq, Eq, Debug)]
+#[derive(Clone, Copy, PartialEq, Eq, PartialOrd, Ord, Default, Debug)]
 pub struct Stamp {
     pub count: u32,
     pub client: u8,
@@ -15,10 +15,7 @@ impl Stamp {
     pub fn lowest() -> Stamp
         ensures { stamp_of result ≡ lowest }
     {
-        Stamp {
-            count: 0,
-            client: 0,
-        }
+        Stamp::default()
     }
 
     /// Whether the stamp is below another.
@@ -26,7 +23,7 @@ impl Stamp {
     pub fn is_below(self, other: Stamp) -> bool
         ensures { result ≡ below (stamp_of self) (stamp_of other) }
     {
-        self.count < other.count || (self.count == other.count && self.client < other.client)
+        self < other
     }
 
     /// Whether two stamps are one.
@@ -34,13 +31,14 @@ impl Stamp {
     pub fn is(self, other: Stamp) -> bool
         ensures { result ≡ same_stamp (stamp_of self) (stamp_of other) }
     {
-        self.count == other.count && self.client == other.client
+        self == other
     }
 
     /// The higher of two stamps.
+    #[tactic(auto, unfolding(register::specs::Stamps::below))]
     pub fn higher(self, other: Stamp) -> Stamp
         ensures { stamp_of result ≡ higher (stamp_of self) (stamp_of other) }
     {
-        if self.is_below(other) { other } else { self }
+        self.max(other)
     }
 }
