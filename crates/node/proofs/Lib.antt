@@ -1,3 +1,4 @@
 pub mod Places
 pub mod Listed
+pub mod Held
 pub mod Picks

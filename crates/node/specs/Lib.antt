@@ -1,4 +1,5 @@
 pub mod Stamped
+pub mod Tagged
 pub mod Shelved
 pub mod Spared
 pub mod Views

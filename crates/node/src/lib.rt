@@ -5,9 +5,9 @@
 //! What a node's memory means, and what each function makes of it, stands in `specs/Views.antt` and in the register's definitions.
 #![tactic(auto)]
 
-mod blocks;
 pub mod nodes;
 pub mod parts;
+pub mod pieces;
 pub mod shelves;
 pub mod spares;
 pub mod stamps;

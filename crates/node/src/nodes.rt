@@ -11,7 +11,7 @@ ghost use Rattle.node.specs.Views.{node as node_of};
 
 use crate::shelves::Shelf;
 use crate::spares::Spare;
-use crate::stamps::Stamp;
+use crate::stamps::{Stamp, Stamped};
 use code::Code;
 
 /// A node: its floor, its shelf of pieces and its spare.
@@ -31,20 +31,20 @@ impl Node {
         Node {
             floor: Stamp::lowest(),
             shelf: Shelf::empty(),
-            spare: Spare::empty(),
+            spare: Spare::Free,
         }
     }
 
     /// Node i as it is laid out: a record's piece i on the shelf, under the floor's stamp.
-    pub fn laid<C: Code>(i: u8, stamp: Stamp, whole: [u8; 24]) -> Node
-        ensures { i < C.Code.meaning.n → node_of C.Code.meaning result ≡ record { floor = stamp_of stamp; shelf = record { stamp = stamp_of stamp; bytes = C.Code.meaning.piece whole i } ∷ []; spare = free } }
+    pub fn laid<C: Code>(i: u8, whole: Stamped) -> Node
+        ensures { i < C.Code.meaning.n → node_of C.Code.meaning result ≡ record { floor = stamp_of whole.stamp; shelf = record { stamp = stamp_of whole.stamp; bytes = C.Code.meaning.piece whole.bytes i } ∷ []; spare = free } }
     {
         let mut shelf = Shelf::empty();
-        shelf.shelve::<C>(i, stamp, whole);
+        shelf.shelve::<C>(i, whole);
         Node {
-            floor: stamp,
+            floor: whole.stamp,
             shelf,
-            spare: Spare::empty(),
+            spare: Spare::Free,
         }
     }
 
@@ -63,31 +63,30 @@ impl Node {
     {
         if self.is_under(floor) {
             self.floor = floor;
-            let kept = self.shelf.cleared::<C>(floor);
-            self.shelf = kept;
-            self.spare.cut::<C>(i, floor);
+            self.shelf = self.shelf.cleared::<C>(floor);
+            self.spare = self.spare.cut::<C>(i, floor);
         }
     }
 
     // A record's piece i goes to the shelf, or where that is full the whole record to the spare.
-    fn put<C: Code>(&mut self, i: u8, stamp: Stamp, whole: [u8; 24])
-        ensures { i < C.Code.meaning.n → node_of C.Code.meaning self.new ≡ placed C.Code.meaning i (stamp_of stamp) whole (node_of C.Code.meaning self.old) }
+    fn put<C: Code>(&mut self, i: u8, whole: Stamped)
+        ensures { i < C.Code.meaning.n → node_of C.Code.meaning self.new ≡ placed C.Code.meaning i (stamp_of whole.stamp) whole.bytes (node_of C.Code.meaning self.old) }
     {
-        if (self.shelf.count as usize) < C::needed() {
-            self.shelf.shelve::<C>(i, stamp, whole);
+        if self.shelf.has_room::<C>() {
+            self.shelf.shelve::<C>(i, whole);
         } else {
-            self.spare.replace::<C>(stamp, whole);
+            self.spare.replace::<C>(whole);
         }
     }
 
     /// Stores a record at node i under a stamp above the floor, after raising the floor to the one that came with it.
     #[tactic(auto, unfolding(register::specs::Nodes::store))]
-    pub fn store<C: Code>(&mut self, i: u8, stamp: Stamp, floor: Stamp, whole: [u8; 24])
-        ensures { i < C.Code.meaning.n → node_of C.Code.meaning self.new ≡ store C.Code.meaning i (stamp_of stamp) (stamp_of floor) whole (node_of C.Code.meaning self.old) }
+    pub fn store<C: Code>(&mut self, i: u8, whole: Stamped, floor: Stamp)
+        ensures { i < C.Code.meaning.n → node_of C.Code.meaning self.new ≡ store C.Code.meaning i (stamp_of whole.stamp) (stamp_of floor) whole.bytes (node_of C.Code.meaning self.old) }
     {
-        if self.is_under(stamp) {
+        if self.is_under(whole.stamp) {
             self.raise::<C>(i, floor);
-            self.put::<C>(i, stamp, whole);
+            self.put::<C>(i, whole);
         }
     }
 
@@ -109,7 +108,7 @@ impl Node {
     pub fn held<C: Code>(&self) -> usize
         ensures { result ≡ held_bytes C.Code.meaning.w (node_of C.Code.meaning self.now) }
     {
-        self.shelf.used::<C>() * C::width() + self.spare.held::<C>()
+        self.shelf.tags::<C>().len() * C::width() + self.spare.held::<C>()
     }
 
     /// The floor.
@@ -120,24 +119,21 @@ impl Node {
     }
 
     /// How many pieces and records the node holds, each under its stamp.
-    #[tactic(auto, using(crate::proofs::Listed::length_stamps))]
     pub fn items<C: Code>(&self) -> usize
         ensures { result ≡ length (node_stamps (node_of C.Code.meaning self.now)) }
     {
-        let used = self.shelf.used::<C>();
-        if self.spare.is_free() { used } else { used + 1 }
+        self.shelf.tags::<C>().len() + usize::from(self.spare.stamp().is_some())
     }
 
     /// The stamp of item j, the spare's coming last; the lowest stamp where there is no such item.
     pub fn stamp_at<C: Code>(&self, j: usize) -> Stamp
         ensures { stamp_of result ≡ slice_index_or (node_stamps (node_of C.Code.meaning self.now)) j lowest }
     {
-        if j < self.shelf.used::<C>() {
-            self.shelf.stamps[j]
-        } else if j < self.items::<C>() {
-            self.spare.stamp
-        } else {
-            Stamp::lowest()
+        let shelf = self.shelf.tags::<C>();
+        match shelf.get(j) {
+            Some(stamp) => *stamp,
+            None if j == shelf.len() => self.spare.stamp().unwrap_or_default(),
+            None => Stamp::lowest(),
         }
     }
 
@@ -145,11 +141,10 @@ impl Node {
     pub fn top_count<C: Code>(&self) -> u32
         ensures { result ≡ list_count (node_of C.Code.meaning self.now).floor.count (node_stamps (node_of C.Code.meaning self.now)) }
     {
-        let mut top = self.floor.count;
-        for j in 0..self.items::<C>() {
-            top = top.max(self.stamp_at::<C>(j).count);
-        }
-        top
+        let stamps = self.shelf.tags::<C>().iter().copied();
+        stamps
+            .chain(self.spare.stamp())
+            .fold(self.floor.count, |top, s| top.max(s.count))
     }
 
     /// The piece under a stamp.
@@ -158,10 +153,9 @@ impl Node {
         ensures piece { option_map (λ x. x.now) result ≡ node_piece (stamp_of stamp) (node_of C.Code.meaning self.now) }
         ensures long { IfSome result (λ p. length p.now ≡ C.Code.meaning.w) }
     {
-        match self.shelf.piece_under::<C>(stamp) {
-            Some(piece) => Some(piece),
-            None => self.spare.piece_under::<C>(stamp),
-        }
+        self.shelf
+            .piece_under::<C>(stamp)
+            .or_else(|| self.spare.piece_under::<C>(stamp))
     }
 
     /// The whole record under a stamp.

@@ -42,3 +42,10 @@ impl Stamp {
         self.max(other)
     }
 }
+
+/// A record, or a piece in the first w bytes, under its stamp.
+#[derive(Clone, Copy)]
+pub struct Stamped {
+    pub stamp: Stamp,
+    pub bytes: [u8; 24],
+}

@@ -1,13 +1,13 @@
 use Rattle.std.proofs.Common.{rules}
 use Rattle.std.proofs.lemmas.Bool.Decides.{nat_tests}
 use Rattle.register.specs.Nodes.{put}
-use Rattle.node.proofs.Listed.{length_shelf}
+use Rattle.node.proofs.Held.{length_shelf}
 use Rattle.node.proofs.nodes.Node.put.Goals as goal
 
-pub returns-then-self-needed : goal.returns-then-self-needed
+pub returns-then-has_room : goal.returns-then-has_room
 unfolding put
-returns-then-self-needed g c = let l = length_shelf g.C.Code.meaning c.args.self.now.shelf in search (rules, nat_tests)
+returns-then-has_room g c = let l = length_shelf g.C.Code.meaning c.args.self.now.shelf in search (rules, nat_tests)
 
-pub returns-else-self-needed : goal.returns-else-self-needed
+pub returns-else-has_room : goal.returns-else-has_room
 unfolding put
-returns-else-self-needed g c = let l = length_shelf g.C.Code.meaning c.args.self.now.shelf in search (rules, nat_tests)
+returns-else-has_room g c = let l = length_shelf g.C.Code.meaning c.args.self.now.shelf in search (rules, nat_tests)

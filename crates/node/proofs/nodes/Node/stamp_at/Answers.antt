@@ -1,11 +1,22 @@
-use Rattle.std.proofs.Common.{arith, rules}
-use Rattle.node.proofs.Listed.{stamp_on_shelf, stamp_in_spare}
+use Rattle.std.proofs.Common.{arith}
+use Rattle.std.proofs.lemmas.Bool.Decides.{nat_tests}
+use Rattle.node.specs.Shelved.{no_stamp}
+use Rattle.node.proofs.Held.{stamp_item}
 use Rattle.node.proofs.nodes.Node.stamp_at.Goals as goal
 
-pub returns-then-j-used : goal.returns-then-j-used
-returns-then-j-used g c =
-    let here = stamp_on_shelf g.C.Code.meaning c.args.self.now c.args.j (omega arith) in search rules
+pub returns-in-Some : goal.returns-in-Some
+returns-in-Some g c =
+    let item = stamp_item g.C.Code.meaning c.args.self.now c.tags-shelf.result.now c.args.j (c.tags-shelf.ensures no_stamp) in
+    let found = c.in-Some.ensures.lookup in
+    grind (arith, nat_tests)
 
-pub returns-then-j-items : goal.returns-then-j-items
-returns-then-j-items g c =
-    let here = stamp_in_spare g.C.Code.meaning c.args.self.now c.args.j (omega arith) (omega arith) in search rules
+pub returns-in-None : goal.returns-in-None
+returns-in-None g c =
+    let item = stamp_item g.C.Code.meaning c.args.self.now c.tags-shelf.result.now c.args.j (c.tags-shelf.ensures no_stamp) in
+    grind (arith, nat_tests)
+
+pub returns-in-None-2 : goal.returns-in-None-2
+returns-in-None-2 g c =
+    let item = stamp_item g.C.Code.meaning c.args.self.now c.tags-shelf.result.now c.args.j (c.tags-shelf.ensures no_stamp) in
+    let missed = c.in-None-2.ensures.lookup in
+    grind (arith, nat_tests)

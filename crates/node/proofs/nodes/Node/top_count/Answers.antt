@@ -1,21 +1,16 @@
-use Rattle.std.proofs.Common.{ap, arith, rules}
-use Rattle.std.proofs.lemmas.List.{at_drop_more, at_drop_all}
-use Rattle.register.specs.Stamps.{lowest}
-use Rattle.register.specs.Reading.{node_stamps, list_count}
-use Rattle.node.specs.Views.{node}
+use Rattle.std.proofs.Common.{◌≡◌, ◌++◌, [], max, sym, ap, ◌∙◌, rules}
+use Rattle.std.proofs.iter.runs.Made.{chains}
+use Rattle.std.specs.List.{fold, cons_option}
+use Rattle.register.specs.Reading.{list_count}
+use Rattle.node.specs.Shelved.{no_stamp}
+use Rattle.node.specs.Spared.{stamp_in}
+use Rattle.node.proofs.Held.{stamps_are, top_of}
 use Rattle.node.proofs.nodes.Node.top_count.Goals as goal
 
-pub loop-j-preserved : goal.loop-j-preserved
-unfolding list_count
-loop-j-preserved g c =
-    let ss = node_stamps (node g.C.Code.meaning c.args.self.now) in
-    let first = at_drop_more (list_count c.loop-j.top) ss c.loop-j.j lowest (omega arith) in
-    let count = ap (λ s. s.count) c.stamp_at.ensures in
-    search rules
-
 pub returns : goal.returns
-unfolding list_count
 returns g c =
-    let ss = node_stamps (node g.C.Code.meaning c.args.self.now) in
-    let none = at_drop_all (list_count c.loop-j.top) ss c.loop-j.j (omega arith) in
-    search rules
+    let n = c.args.self.now.floor.count in
+    let ts = c.tags.result.now ++ cons_option (stamp_in c.args.self.now.spare) [] in
+    let top : c.fold.result ≡ fold (λ n s. max n s.count) n ts = search (rules, chains) in
+    let all = stamps_are g.C.Code.meaning c.args.self.now c.tags.result.now (c.tags.ensures no_stamp) in
+    top ∙ top_of n ts ∙ ap (list_count n) (sym all)

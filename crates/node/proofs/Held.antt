@@ -1,0 +1,139 @@
+-- The stamps on a shelf, what a floor leaves of it, and the stamps of a node.
+use Rattle.std.proofs.Common.{◌≡◌, ℕ, zero, suc, ◌+◌, ◌<◌, min, max, ◌==◌, nat_lt, take, Bool, true, false, cond, List, [], ◌∷◌, ◌++◌, map, length, Some, None, Option, get_or, inl, inr, refl, sym, ap, ◌∙◌, ap₂, arith}
+use Rattle.std.specs.List.{position, position_or_len, find, slice_get, cons_option, fold}
+use Rattle.std.specs.Option.{option_map, unwrap_or}
+use Rattle.std.proofs.lemmas.List.{length-map, map-append, take_more, get_or-map}
+use Rattle.std.proofs.lemmas.Bool.{cases_Bool}
+use Rattle.std.proofs.Math.ListN.{get_or-map as get_or-map_same}
+use Rattle.std.proofs.lemmas.List.Folds.{find_at}
+use Rattle.std.proofs.lemmas.Bool.Decides.{nat_tests}
+use Rattle.code.specs.Meaning.{Meaning}
+use Rattle.register.specs.Stamps.{Stamp, below, same_stamp, lowest}
+use Rattle.register.specs.Nodes.{Item, cleared}
+use Rattle.register.specs.Reading.{shelf_stamps, shelf_piece, spare_stamps, node_stamps, list_count}
+use Rattle.node.specs.declared.stamps.Stamp as memory
+use Rattle.code.specs.Calls.{part}
+use Rattle.node.specs.declared.pieces.Pieces.{Pieces}
+use Rattle.node.specs.declared.spares.Spare.{Spare}
+use Rattle.node.specs.declared.spares.Spare.TheVariants.{Free, Piece, Whole}
+use Rattle.node.specs.declared.nodes.Node.{Node}
+use Rattle.node.specs.Stamped.{stamp}
+use Rattle.node.specs.Tagged.{Tagged, piece_at, pieces}
+use Rattle.node.specs.Shelved.{no_stamp, item, shelf}
+use Rattle.node.specs.Spared.{spare, stamp_in}
+use Rattle.node.specs.Views.{node}
+use Rattle.node.proofs.Listed.{length_pieces, pieces_at}
+
+-- as many pieces stand on a shelf as places are in use
+pub length_shelf : (m : Meaning) (s : Pieces memory.Stamp 6) → length (shelf m s) ≡ min s.count m.k
+length_shelf m s = length-map (pieces no_stamp m s) item ∙ length_pieces no_stamp m s
+
+-- as many as there are tags
+pub length_tags : (m : Meaning) (s : Pieces memory.Stamp 6) (ts : List memory.Stamp) → ts ≡ map (λ x. x.tag) (pieces no_stamp m s) → length ts ≡ length (shelf m s)
+length_tags m s ts tags =
+    let ps = pieces no_stamp m s in
+    ap length tags ∙ length-map ps (λ x. x.tag) ∙ sym (length-map ps item)
+
+-- clearing goes piece by piece
+pub cleared_append : (F : Stamp) (xs ys : List Item) → cleared F (xs ++ ys) ≡ cleared F xs ++ cleared F ys
+unfolding cleared
+cleared_append F [] ys = refl
+cleared_append F (x ∷ xs) ys = go (below x.stamp F) (cleared_append F xs ys)
+  where
+    go : (b : Bool) → cleared F (xs ++ ys) ≡ cleared F xs ++ cleared F ys
+        → cond b (cleared F (xs ++ ys)) (x ∷ cleared F (xs ++ ys)) ≡ cond b (cleared F xs) (x ∷ cleared F xs) ++ cleared F ys
+    go true e = e
+    go false e = ap (λ v. x ∷ v) e
+
+-- one more piece is cleared
+pub cleared_more : (F : Stamp) (xs : List Item) (j : ℕ) (x z : Item) → j < length xs → get_or xs j z ≡ x → cleared F (take (j + 1) xs) ≡ cleared F (take j xs) ++ cleared F (x ∷ [])
+cleared_more F xs j x z h at = ap (cleared F) (take_more xs j z h ∙ ap (λ y. take j xs ++ (y ∷ [])) at) ∙ cleared_append F (take j xs) (x ∷ [])
+
+-- the piece at place j of a shelf
+pub shelf_at : (m : Meaning) (s : Pieces memory.Stamp 6) (ts : List memory.Stamp) (j : ℕ) (d : memory.Stamp) (z : Item) → ts ≡ map (λ x. x.tag) (pieces no_stamp m s) → j < length ts
+    → (j < min s.count m.k) × (get_or (shelf m s) j z ≡ record { stamp = stamp (get_or ts j d); bytes = part m.w s.bytes j })
+shelf_at m s ts j d z tags h =
+    let ps = pieces no_stamp m s in
+    let x : Tagged memory.Stamp = piece_at no_stamp m.w s j in
+    let long = length_tags m s ts tags in
+    let count = length_shelf m s in
+    let used = length_pieces no_stamp m s in
+    let at = pieces_at no_stamp m s j x (omega arith) in
+    let same : get_or ts j d ≡ x.tag =
+    ap (λ v. get_or v j d) tags ∙ get_or-map (λ x. x.tag) ps j x d (omega arith) ∙ ap (λ x. x.tag) at in
+    (omega arith, get_or-map item ps j x z (omega arith) ∙ ap item at ∙ ap (λ t. record { stamp = stamp t; bytes = x.bytes }) (sym same))
+
+-- the stamps of pieces are what their tags mean
+stamps_at : (xs : List (Tagged memory.Stamp)) → shelf_stamps (map item xs) ≡ map stamp (map (λ x. x.tag) xs)
+unfolding shelf_stamps
+stamps_at [] = refl
+stamps_at (x ∷ xs) = ap (λ v. stamp x.tag ∷ v) (stamps_at xs)
+
+-- the stamp of a spare, as a list
+stamps_in : (m : Meaning) (x : Spare) → spare_stamps (spare m x) ≡ map stamp (cons_option (stamp_in x) [])
+unfolding spare_stamps
+stamps_in m Free = refl
+stamps_in m (Piece s) = refl
+stamps_in m (Whole s) = refl
+
+-- the stamps of a node are those on the shelf and that of the spare
+pub stamps_are : (m : Meaning) (a : Node) (ts : List memory.Stamp) → ts ≡ map (λ x. x.tag) (pieces no_stamp m a.shelf) → node_stamps (node m a) ≡ map stamp (ts ++ cons_option (stamp_in a.spare) [])
+unfolding node_stamps
+stamps_are m a ts tags =
+    ap₂ ◌++◌ (stamps_at (pieces no_stamp m a.shelf) ∙ ap (map stamp) (sym tags)) (stamps_in m a.spare) ∙ sym (map-append stamp ts (cons_option (stamp_in a.spare) []))
+
+-- the j-th of them is on the shelf, in the spare behind it, or nowhere
+item_listed : (ts : List memory.Stamp) (o : Option memory.Stamp) (j : ℕ) (d : memory.Stamp)
+    → get_or (ts ++ cons_option o []) j d ≡ cond (nat_lt j (length ts)) (get_or ts j d) (cond (j == length ts) (unwrap_or o d) d)
+item_listed [] None j d = grind (arith, nat_tests)
+item_listed [] (Some t) zero d = grind (arith, nat_tests)
+item_listed [] (Some t) (suc j) d = grind (arith, nat_tests)
+item_listed (t ∷ ts) o zero d = grind (arith, nat_tests)
+item_listed (t ∷ ts) o (suc j) d = item_listed ts o j d ∙ grind (arith, nat_tests)
+
+pub stamp_item : (m : Meaning) (a : Node) (ts : List memory.Stamp) (j : ℕ) → ts ≡ map (λ x. x.tag) (pieces no_stamp m a.shelf)
+    → get_or (node_stamps (node m a)) j lowest ≡ stamp (cond (nat_lt j (length ts)) (get_or ts j no_stamp) (cond (j == length ts) (unwrap_or (stamp_in a.spare) no_stamp) no_stamp))
+stamp_item m a ts j tags =
+    ap (λ v. get_or v j lowest) (stamps_are m a ts tags) ∙ get_or-map_same stamp (ts ++ cons_option (stamp_in a.spare) []) j no_stamp
+    ∙ ap stamp (item_listed ts (stamp_in a.spare) j no_stamp)
+
+-- the highest count in some stamps
+pub top_of : (n : ℕ) (ts : List memory.Stamp) → fold (λ top s. max top s.count) n ts ≡ list_count n (map stamp ts)
+unfolding list_count
+top_of n [] = refl
+top_of n (t ∷ ts) = top_of (max n t.count) ts
+
+-- the first piece under a stamp
+piece_found : (t : Stamp) (xs : List (Tagged memory.Stamp)) → shelf_piece t (map item xs) ≡ option_map (λ x. x.bytes) (find (λ x. same_stamp (stamp x.tag) t) xs)
+unfolding shelf_piece
+piece_found t [] = refl
+piece_found t (x ∷ xs) =
+    let more = piece_found t xs in
+    elim (cases_Bool (same_stamp (stamp x.tag) t)) [
+      | inl e ↦ rw e
+      | inr e ↦ rw e more
+    ]
+
+-- tags are tested as their pieces are
+place_found : (test : memory.Stamp → Bool) (xs : List (Tagged memory.Stamp)) → position_or_len test (map (λ x. x.tag) xs) ≡ position_or_len (λ x. test x.tag) xs
+place_found test [] = refl
+place_found test (x ∷ xs) =
+    let more = place_found test xs in
+    elim (cases_Bool (test x.tag)) [
+      | inl e ↦ rw e
+      | inr e ↦ rw (e, more)
+    ]
+
+-- it is the one at the place of the first such tag
+pub piece_placed : (t : Stamp) (z : Tagged memory.Stamp) (xs : List (Tagged memory.Stamp))
+    → shelf_piece t (map item xs) ≡ option_map (λ j. (get_or xs j z).bytes) (position (λ s. same_stamp (stamp s) t) (map (λ x. x.tag) xs))
+piece_placed t z xs =
+    let test : Tagged memory.Stamp → Bool = λ x. same_stamp (stamp x.tag) t in
+    piece_found t xs ∙ ap (option_map (λ x. x.bytes)) (find_at test xs)
+    ∙ rw (place_found (λ s. same_stamp (stamp s) t) xs, length-map xs (λ x. x.tag)) (go xs (position_or_len test xs))
+  where
+    go : (ys : List (Tagged memory.Stamp)) (n : ℕ)
+        → option_map (λ x. x.bytes) (slice_get ys n) ≡ option_map (λ j. (get_or ys j z).bytes) (cond (nat_lt n (length ys)) (Some n) None)
+    go [] n = grind (arith, nat_tests)
+    go (y ∷ ys) zero = grind (arith, nat_tests)
+    go (y ∷ ys) (suc n) = go ys n ∙ grind (arith, nat_tests)

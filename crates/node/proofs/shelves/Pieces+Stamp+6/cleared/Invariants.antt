@@ -1,0 +1,9 @@
+use Rattle.std.proofs.Common.{◌≡◌, ◌≤◌, map, take}
+use Rattle.register.specs.Nodes.{cleared}
+use Rattle.node.specs.Stamped.{stamp}
+use Rattle.node.specs.Shelved.{item, shelf}
+use Rattle.node.proofs.shelves.Pieces+Stamp+6.cleared.Given as goal
+
+abbrev pub invariant-loop-j : goal.invariant-loop-j
+invariant-loop-j g l =
+    (l.rest.count ≤ l.j) × (shelf g.C.Code.meaning l.rest ≡ cleared (stamp l.floor) (take l.j (shelf g.C.Code.meaning l.self)))

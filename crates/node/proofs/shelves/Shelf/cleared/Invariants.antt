@@ -1,9 +1,0 @@
-use Rattle.std.proofs.Common.{◌≡◌, ◌≤◌}
-use Rattle.register.specs.Nodes.{cleared}
-use Rattle.node.specs.Stamped.{stamp}
-use Rattle.node.specs.Shelved.{items, shelf}
-use Rattle.node.proofs.shelves.Shelf.cleared.Given as goal
-
-abbrev pub invariant-loop-j : goal.invariant-loop-j
-invariant-loop-j g l =
-    (l.rest.count ≤ l.j) × (shelf g.C.Code.meaning l.rest ≡ cleared (stamp l.floor) (items g.C.Code.meaning.w l.j l.self))

@@ -1,0 +1,71 @@
+//! Pieces of a code, one after the other in a block of bytes, each with a tag.
+ghost use Rattle.std.specs.Prelude.{◌≡◌, ◌+◌, ◌*◌, ◌<◌, ◌≤◌, [], ◌∷◌, ◌++◌, map, length, nat_lt};
+ghost use Rattle.code.specs.Meaning.{Meaning};
+ghost use Rattle.code.specs.Calls.{part};
+ghost use Rattle.node.specs.Tagged.{pieces as pieces_of};
+
+use code::Code;
+
+/// At most k pieces of w bytes for a code's k and w, each with a tag: the stamp that it stands under, or its node's number.
+/// The 24 bytes are cut into k places of w bytes; the first `count` places are in use.
+#[derive(Clone, Copy)]
+pub struct Pieces<T, const MAX: usize> {
+    count: u8,
+    pub(crate) tags: [T; MAX],
+    pub(crate) bytes: [u8; 24],
+}
+
+impl<T: Copy + Default, const MAX: usize> Pieces<T, MAX> {
+    // No pieces.
+    pub(crate) fn empty() -> Pieces<T, MAX>
+        ensures counted { result.count ≡ 0 }
+        ensures listed { (d : T) (m : Meaning) → pieces_of d m result ≡ [] }
+    {
+        Pieces {
+            count: 0,
+            tags: [T::default(); MAX],
+            bytes: [0; 24],
+        }
+    }
+
+    // Whether there is room for one more.
+    pub(crate) fn has_room<C: Code>(&self) -> bool
+        ensures { result ≡ nat_lt self.now.count C.Code.meaning.k }
+    {
+        usize::from(self.count) < C::needed()
+    }
+
+    // The tags, in the order of the pieces.
+    pub(crate) fn tags<C: Code>(&self) -> &[T]
+        requires { C.Code.meaning.k ≤ MAX }
+        ensures { (d : T) → result.now ≡ map (λ x. x.tag) (pieces_of d C.Code.meaning self.now) }
+    {
+        let used = C::needed().min(usize::from(self.count));
+        &self.tags[..used]
+    }
+
+    // The piece at place j.
+    pub(crate) fn at<C: Code>(&self, j: usize) -> &[u8]
+        requires { j < C.Code.meaning.k }
+        ensures piece { result.now ≡ part C.Code.meaning.w self.now.bytes j }
+        ensures long { length result.now ≡ C.Code.meaning.w }
+    {
+        let w = C::width();
+        &self.bytes[j * w..j * w + w]
+    }
+
+    // One more piece, behind the others.
+    pub(crate) fn push<C: Code>(&mut self, tag: T, piece: &[u8])
+        requires places { C.Code.meaning.k ≤ MAX }
+        requires room { self.old.count < C.Code.meaning.k }
+        requires long { length piece.now ≡ C.Code.meaning.w }
+        ensures counted { self.new.count ≡ self.old.count + 1 }
+        ensures longer { (d : T) → pieces_of d C.Code.meaning self.new ≡ pieces_of d C.Code.meaning self.old ++ (record { tag = tag; bytes = piece.now } ∷ []) }
+    {
+        let j = usize::from(self.count);
+        let w = C::width();
+        self.tags[j] = tag;
+        self.bytes[j * w..j * w + w].copy_from_slice(piece);
+        self.count += 1;
+    }
+}
