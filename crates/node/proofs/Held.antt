@@ -1,12 +1,14 @@
 -- The stamps on a shelf, what a floor leaves of it, and the stamps of a node.
 use Rattle.std.proofs.Common.{◌≡◌, ℕ, zero, suc, ◌+◌, ◌<◌, min, max, ◌==◌, nat_lt, take, Bool, true, false, cond, List, [], ◌∷◌, ◌++◌, map, length, Some, None, Option, get_or, inl, inr, refl, sym, ap, ◌∙◌, ap₂, arith}
 use Rattle.std.specs.List.{position, position_or_len, find, slice_get, cons_option, fold}
-use Rattle.std.specs.Option.{option_map, unwrap_or}
-use Rattle.std.proofs.lemmas.List.{length-map, map-append, take_more, get_or-map}
+use Rattle.std.specs.Option.{option_map, is_some, unwrap_or}
+use Rattle.std.proofs.lemmas.List.{length-map, length-append, map-append, take_more, get_or-map}
 use Rattle.std.proofs.lemmas.Bool.{cases_Bool}
 use Rattle.std.proofs.Math.ListN.{get_or-map as get_or-map_same}
 use Rattle.std.proofs.lemmas.List.Folds.{find_at}
 use Rattle.std.proofs.lemmas.Bool.Decides.{nat_tests}
+use Rattle.std.proofs.iter.runs.Made.{chains}
+use mir.Val.{bool_byte}
 use Rattle.code.specs.Meaning.{Meaning}
 use Rattle.register.specs.Stamps.{Stamp, below, same_stamp, lowest}
 use Rattle.register.specs.Nodes.{Item, cleared}
@@ -76,13 +78,7 @@ stamps_in m Free = refl
 stamps_in m (Piece s) = refl
 stamps_in m (Whole s) = refl
 
--- the stamps of a node are those on the shelf and that of the spare
-pub stamps_are : (m : Meaning) (a : Node) (ts : List memory.Stamp) → ts ≡ map (λ x. x.tag) (pieces no_stamp m a.shelf) → node_stamps (node m a) ≡ map stamp (ts ++ cons_option (stamp_in a.spare) [])
-unfolding node_stamps
-stamps_are m a ts tags =
-    ap₂ ◌++◌ (stamps_at (pieces no_stamp m a.shelf) ∙ ap (map stamp) (sym tags)) (stamps_in m a.spare) ∙ sym (map-append stamp ts (cons_option (stamp_in a.spare) []))
-
--- the j-th of them is on the shelf, in the spare behind it, or nowhere
+-- an item is among some, the one behind them, or past both
 item_listed : (ts : List memory.Stamp) (o : Option memory.Stamp) (j : ℕ) (d : memory.Stamp)
     → get_or (ts ++ cons_option o []) j d ≡ cond (nat_lt j (length ts)) (get_or ts j d) (cond (j == length ts) (unwrap_or o d) d)
 item_listed [] None j d = grind (arith, nat_tests)
@@ -91,17 +87,53 @@ item_listed [] (Some t) (suc j) d = grind (arith, nat_tests)
 item_listed (t ∷ ts) o zero d = grind (arith, nat_tests)
 item_listed (t ∷ ts) o (suc j) d = item_listed ts o j d ∙ grind (arith, nat_tests)
 
-pub stamp_item : (m : Meaning) (a : Node) (ts : List memory.Stamp) (j : ℕ) → ts ≡ map (λ x. x.tag) (pieces no_stamp m a.shelf)
-    → get_or (node_stamps (node m a)) j lowest ≡ stamp (cond (nat_lt j (length ts)) (get_or ts j no_stamp) (cond (j == length ts) (unwrap_or (stamp_in a.spare) no_stamp) no_stamp))
-stamp_item m a ts j tags =
-    ap (λ v. get_or v j lowest) (stamps_are m a ts tags) ∙ get_or-map_same stamp (ts ++ cons_option (stamp_in a.spare) []) j no_stamp
-    ∙ ap stamp (item_listed ts (stamp_in a.spare) j no_stamp)
-
 -- the highest count in some stamps
-pub top_of : (n : ℕ) (ts : List memory.Stamp) → fold (λ top s. max top s.count) n ts ≡ list_count n (map stamp ts)
+top_of : (n : ℕ) (ts : List memory.Stamp) → fold (λ top s. max top s.count) n ts ≡ list_count n (map stamp ts)
 unfolding list_count
 top_of n [] = refl
 top_of n (t ∷ ts) = top_of (max n t.count) ts
+
+-- the stamps of a node
+module _ (m : Meaning) (a : Node) where
+  -- those on the shelf and that of the spare, as they are in memory
+  abbrev pub in_memory : List memory.Stamp
+  in_memory = map (λ x. x.tag) (pieces no_stamp m a.shelf) ++ cons_option (stamp_in a.spare) []
+
+  -- there are no others
+  pub stamps_are : node_stamps (node m a) ≡ map stamp in_memory
+  unfolding node_stamps
+  stamps_are =
+      ap₂ ◌++◌ (stamps_at (pieces no_stamp m a.shelf)) (stamps_in m a.spare)
+      ∙ sym (map-append stamp (map (λ x. x.tag) (pieces no_stamp m a.shelf)) (cons_option (stamp_in a.spare) []))
+
+  -- how many there are
+  pub length_stamps : length (node_stamps (node m a)) ≡ min a.shelf.count m.k + bool_byte (is_some (stamp_in a.spare))
+  length_stamps =
+      let ps = pieces no_stamp m a.shelf in
+      let shelf = length-map ps (λ x. x.tag) ∙ length_pieces no_stamp m a.shelf in
+      ap length stamps_are ∙ length-map in_memory stamp ∙ length-append (map (λ x. x.tag) ps) (cons_option (stamp_in a.spare) []) ∙ ap₂ ◌+◌ shelf (one (stamp_in a.spare))
+    where
+      one : (o : Option memory.Stamp) → length (cons_option o []) ≡ bool_byte (is_some o)
+      one None = refl
+      one (Some t) = refl
+
+  -- the j-th of them is on the shelf, in the spare behind it, or nowhere
+  pub stamp_item : (j : ℕ)
+      → get_or (node_stamps (node m a)) j lowest
+      ≡ stamp (cond (nat_lt j (min a.shelf.count m.k)) (get_or (map (λ x. x.tag) (pieces no_stamp m a.shelf)) j no_stamp) (cond (j == min a.shelf.count m.k) (unwrap_or (stamp_in a.spare) no_stamp) no_stamp))
+  stamp_item j =
+      let ps = pieces no_stamp m a.shelf in
+      let shelf = length-map ps (λ x. x.tag) ∙ length_pieces no_stamp m a.shelf in
+      ap (λ v. get_or v j lowest) stamps_are ∙ get_or-map_same stamp in_memory j no_stamp
+      ∙ ap stamp (item_listed (map (λ x. x.tag) ps) (stamp_in a.spare) j no_stamp ∙ rw shelf)
+
+  -- the highest count in them
+  pub top_stamp : (n : ℕ) → list_count n (node_stamps (node m a)) ≡ fold (λ top s. max top s.count) n in_memory
+  top_stamp n = ap (list_count n) stamps_are ∙ sym (top_of n in_memory)
+
+pub ruleset items = (nat_tests, stamp_item)
+
+pub ruleset tops = (chains, top_stamp)
 
 -- the first piece under a stamp
 piece_found : (t : Stamp) (xs : List (Tagged memory.Stamp)) → shelf_piece t (map item xs) ≡ option_map (λ x. x.bytes) (find (λ x. same_stamp (stamp x.tag) t) xs)

@@ -108,7 +108,7 @@ impl Node {
     pub fn held<C: Code>(&self) -> usize
         ensures { result ≡ held_bytes C.Code.meaning.w (node_of C.Code.meaning self.now) }
     {
-        self.shelf.tags::<C>().len() * C::width() + self.spare.held::<C>()
+        self.shelf.used::<C>() * C::width() + self.spare.held::<C>()
     }
 
     /// The floor.
@@ -119,24 +119,29 @@ impl Node {
     }
 
     /// How many pieces and records the node holds, each under its stamp.
+    #[tactic(auto, using(crate::proofs::Held::length_stamps))]
     pub fn items<C: Code>(&self) -> usize
         ensures { result ≡ length (node_stamps (node_of C.Code.meaning self.now)) }
     {
-        self.shelf.tags::<C>().len() + usize::from(self.spare.stamp().is_some())
+        self.shelf.used::<C>() + usize::from(self.spare.stamp().is_some())
     }
 
+    #[tactic(auto, using(crate::proofs::Held::items))]
     /// The stamp of item j, the spare's coming last; the lowest stamp where there is no such item.
     pub fn stamp_at<C: Code>(&self, j: usize) -> Stamp
         ensures { stamp_of result ≡ slice_index_or (node_stamps (node_of C.Code.meaning self.now)) j lowest }
     {
-        let shelf = self.shelf.tags::<C>();
-        match shelf.get(j) {
-            Some(stamp) => *stamp,
-            None if j == shelf.len() => self.spare.stamp().unwrap_or_default(),
-            None => Stamp::lowest(),
+        let used = self.shelf.used::<C>();
+        if j < used {
+            self.shelf.tags::<C>()[j]
+        } else if j == used {
+            self.spare.stamp().unwrap_or_default()
+        } else {
+            Stamp::lowest()
         }
     }
 
+    #[tactic(auto, using(crate::proofs::Held::tops))]
     /// The highest count in any stamp of the node, the floor's included.
     pub fn top_count<C: Code>(&self) -> u32
         ensures { result ≡ list_count (node_of C.Code.meaning self.now).floor.count (node_stamps (node_of C.Code.meaning self.now)) }

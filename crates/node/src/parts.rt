@@ -23,10 +23,11 @@ impl Pieces<u8, 8> {
     }
 
     /// How many there are.
+    #[tactic(auto, using(crate::proofs::Picks::length_parts))]
     pub fn len<C: Code>(&self) -> usize
         ensures { result ≡ length (parts_of C.Code.meaning self.now) }
     {
-        self.tags::<C>().len()
+        self.used::<C>()
     }
 
     /// One more piece, of node i, if it has one under the stamp and k are not there yet.

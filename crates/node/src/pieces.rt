@@ -1,5 +1,5 @@
 //! Pieces of a code, one after the other in a block of bytes, each with a tag.
-ghost use Rattle.std.specs.Prelude.{◌≡◌, ◌+◌, ◌*◌, ◌<◌, ◌≤◌, [], ◌∷◌, ◌++◌, map, length, nat_lt};
+ghost use Rattle.std.specs.Prelude.{◌≡◌, ◌+◌, ◌*◌, ◌<◌, ◌≤◌, min, [], ◌∷◌, ◌++◌, map, length, nat_lt};
 ghost use Rattle.code.specs.Meaning.{Meaning};
 ghost use Rattle.code.specs.Calls.{part};
 ghost use Rattle.node.specs.Tagged.{pieces as pieces_of};
@@ -35,13 +35,20 @@ impl<T: Copy + Default, const MAX: usize> Pieces<T, MAX> {
         usize::from(self.count) < C::needed()
     }
 
+    // How many there are.
+    pub(crate) fn used<C: Code>(&self) -> usize
+        ensures { result ≡ min self.now.count C.Code.meaning.k }
+    {
+        C::needed().min(usize::from(self.count))
+    }
+
     // The tags, in the order of the pieces.
     pub(crate) fn tags<C: Code>(&self) -> &[T]
         requires { C.Code.meaning.k ≤ MAX }
-        ensures { (d : T) → result.now ≡ map (λ x. x.tag) (pieces_of d C.Code.meaning self.now) }
+        ensures used { length result.now ≡ min self.now.count C.Code.meaning.k }
+        ensures listed { (d : T) → result.now ≡ map (λ x. x.tag) (pieces_of d C.Code.meaning self.now) }
     {
-        let used = C::needed().min(usize::from(self.count));
-        &self.tags[..used]
+        &self.tags[..self.used::<C>()]
     }
 
     // The piece at place j.

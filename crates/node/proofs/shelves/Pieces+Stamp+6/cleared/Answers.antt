@@ -12,7 +12,7 @@ loop-j-init g c = (omega arith, ap (map item) (c.empty-rest.ensures.listed no_st
 pub at-requires : goal.at-requires
 at-requires g c =
     let z : Item = record { stamp = stamp no_stamp; bytes = c.args.self.now.bytes } in
-    let here = shelf_at g.C.Code.meaning c.args.self.now c.tags-stamp-items.result.now c.loop-j.j no_stamp z (c.tags-stamp-items.ensures no_stamp) c.loop-j-test.true in
+    let here = shelf_at g.C.Code.meaning c.args.self.now c.tags-stamp-items.result.now c.loop-j.j no_stamp z (c.tags-stamp-items.ensures.listed no_stamp) c.loop-j-test.true in
     omega arith
 
 pub loop-j-preserved : goal.loop-j-preserved
@@ -20,7 +20,7 @@ loop-j-preserved g c =
     let m = g.C.Code.meaning in
     let s = c.args.self.now in
     let z : Item = record { stamp = stamp no_stamp; bytes = s.bytes } in
-    let tags = c.tags-stamp-items.ensures no_stamp in
+    let tags = c.tags-stamp-items.ensures.listed no_stamp in
     let long = length_tags m s c.tags-stamp-items.result.now tags in
     let F = stamp c.args.floor in
     let under = stamp (get_or c.tags-stamp-items.result.now c.loop-j.j no_stamp) in

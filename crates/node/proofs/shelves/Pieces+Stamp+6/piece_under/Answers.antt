@@ -8,8 +8,8 @@ use Rattle.register.specs.Stamps.{Stamp, same_stamp}
 use Rattle.node.specs.declared.stamps.Stamp as memory
 use Rattle.node.specs.declared.pieces.Pieces.{Pieces}
 use Rattle.node.specs.Stamped.{stamp}
-use Rattle.node.specs.Tagged.{Tagged, piece_at, pieces}
-use Rattle.node.specs.Shelved.{no_stamp, shelf}
+use Rattle.node.specs.Tagged.{piece_at, pieces}
+use Rattle.node.specs.Shelved.{no_stamp}
 use Rattle.node.proofs.Listed.{length_pieces, pieces_at}
 use Rattle.node.proofs.Held.{piece_placed}
 use Rattle.node.proofs.shelves.Pieces+Stamp+6.piece_under.Goals as goal
