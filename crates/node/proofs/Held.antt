@@ -1,17 +1,19 @@
 -- The stamps on a shelf, what a floor leaves of it, and the stamps of a node.
-use Rattle.std.proofs.Common.{◌≡◌, ℕ, zero, suc, ◌+◌, ◌<◌, min, max, ◌==◌, nat_lt, take, Bool, true, false, cond, List, [], ◌∷◌, ◌++◌, map, length, Some, None, Option, get_or, inl, inr, refl, sym, ap, ◌∙◌, ap₂, arith}
+use Rattle.std.proofs.Common.{◌≡◌, ℕ, zero, suc, ◌+◌, ◌*◌, ◌<◌, ◌≤◌, min, max, ◌==◌, nat_lt, take, Bool, true, false, cond, List, [], ◌∷◌, ◌++◌, map, length, Some, None, Option, get_or, inl, inr, refl, sym, ap, ◌∙◌, ap₂, arith}
 use Rattle.std.specs.List.{position, position_or_len, find, slice_get, cons_option, fold}
 use Rattle.std.specs.Option.{option_map, is_some, unwrap_or}
 use Rattle.std.proofs.lemmas.List.{length-map, length-append, map-append, take_more, get_or-map}
 use Rattle.std.proofs.lemmas.Bool.{cases_Bool}
 use Rattle.std.proofs.Math.ListN.{get_or-map as get_or-map_same}
+use Rattle.std.proofs.lemmas.List.Quantifiers.{position-Some}
 use Rattle.std.proofs.lemmas.List.Folds.{find_at}
 use Rattle.std.proofs.lemmas.Bool.Decides.{nat_tests}
 use Rattle.std.proofs.iter.runs.Made.{chains}
 use mir.Val.{bool_byte}
-use Rattle.code.specs.Meaning.{Meaning}
+use Rattle.code.specs.Meaning.{Meaning, Lawful}
 use Rattle.register.specs.Stamps.{Stamp, below, same_stamp, lowest}
-use Rattle.register.specs.Nodes.{Item, cleared}
+use Rattle.register.specs.Nodes.{Item, cleared, held_bytes, spare_bytes}
+use Rattle.register.proofs.First.{most}
 use Rattle.register.specs.Reading.{shelf_stamps, shelf_piece, spare_stamps, node_stamps, list_count}
 use Rattle.node.specs.declared.stamps.Stamp as memory
 use Rattle.code.specs.Calls.{part}
@@ -131,6 +133,18 @@ module _ (m : Meaning) (a : Node) where
   pub top_stamp : (n : ℕ) → list_count n (node_stamps (node m a)) ≡ fold (λ top s. max top s.count) n in_memory
   top_stamp n = ap (list_count n) stamps_are ∙ sym (top_of n in_memory)
 
+  -- the bytes that it holds
+  pub held_is : held_bytes m.w (node m a) ≡ min a.shelf.count m.k * m.w + spare_bytes m.w (spare m a.spare)
+  held_is = ap (λ n. n * m.w + spare_bytes m.w (spare m a.spare)) (length_shelf m a.shelf)
+
+  -- are few
+  pub held_few : Lawful m → min a.shelf.count m.k * m.w + spare_bytes m.w (spare m a.spare) ≤ 48
+  held_few l =
+      let long = length_shelf m a.shelf in
+      let few = most m l (node m a) (omega arith) in
+      let is = held_is in
+      omega arith
+
 pub ruleset items = (nat_tests, stamp_item)
 
 pub ruleset tops = (chains, top_stamp)
@@ -157,9 +171,9 @@ place_found test (x ∷ xs) =
     ]
 
 -- it is the one at the place of the first such tag
-pub piece_placed : (t : Stamp) (z : Tagged memory.Stamp) (xs : List (Tagged memory.Stamp))
+placed_first : (t : Stamp) (z : Tagged memory.Stamp) (xs : List (Tagged memory.Stamp))
     → shelf_piece t (map item xs) ≡ option_map (λ j. (get_or xs j z).bytes) (position (λ s. same_stamp (stamp s) t) (map (λ x. x.tag) xs))
-piece_placed t z xs =
+placed_first t z xs =
     let test : Tagged memory.Stamp → Bool = λ x. same_stamp (stamp x.tag) t in
     piece_found t xs ∙ ap (option_map (λ x. x.bytes)) (find_at test xs)
     ∙ rw (place_found (λ s. same_stamp (stamp s) t) xs, length-map xs (λ x. x.tag)) (go xs (position_or_len test xs))
@@ -169,3 +183,37 @@ piece_placed t z xs =
     go [] n = grind (arith, nat_tests)
     go (y ∷ ys) zero = grind (arith, nat_tests)
     go (y ∷ ys) (suc n) = go ys n ∙ grind (arith, nat_tests)
+
+-- the first piece on a shelf under a stamp
+module _ (t : Stamp) (m : Meaning) (s : Pieces memory.Stamp 6) where
+  -- the place of the first such tag
+  abbrev pub place : Option ℕ
+  place = position (λ s. same_stamp (stamp s) t) (map (λ x. x.tag) (pieces no_stamp m s))
+
+  -- it is in use
+  pub place_used : (j : ℕ) → place ≡ Some j → j < min s.count m.k
+  place_used j at =
+      let ps = pieces no_stamp m s in
+      let here = position-Some (λ s. same_stamp (stamp s) t) (map (λ x. x.tag) ps) j no_stamp at in
+      let long = length-map ps (λ x. x.tag) in
+      let count = length_pieces no_stamp m s in
+      omega arith
+
+  -- and there the piece is
+  pub piece_there : (j : ℕ) → place ≡ Some j → shelf_piece t (shelf m s) ≡ Some (part m.w s.bytes j)
+  piece_there j at =
+      let z = piece_at no_stamp m.w s j in
+      placed_first t z (pieces no_stamp m s) ∙ ap (option_map (λ j. (get_or (pieces no_stamp m s) j z).bytes)) at
+      ∙ ap (λ x. Some x.bytes) (pieces_at no_stamp m s j z (place_used j at))
+
+  -- without one there is no piece
+  pub piece_nowhere : place ≡ None → shelf_piece t (shelf m s) ≡ None
+  piece_nowhere none =
+      let z = piece_at no_stamp m.w s 0 in
+      placed_first t z (pieces no_stamp m s) ∙ ap (option_map (λ j. (get_or (pieces no_stamp m s) j z).bytes)) none
+
+pub ruleset placed = (place_used, piece_there, piece_nowhere)
+
+pub ruleset counts = (nat_tests, length_shelf)
+
+pub ruleset bytes = (held_is, held_few)

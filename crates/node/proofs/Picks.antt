@@ -1,9 +1,10 @@
 -- Pieces picked from nodes as a list, and what joining them gives.
-use Rattle.std.proofs.Common.{◌≡◌, ℕ, ◌<◌, ◌≤◌, min, List, [], ◌∷◌, ◌++◌, length, take, Some, None, Option, sym, ap, ◌∙◌, ap₂, arith}
+use Rattle.std.proofs.Common.{◌≡◌, ℕ, ◌<◌, ◌≤◌, min, List, [], ◌∷◌, ◌++◌, length, take, Some, None, Option, sym, ap, subst, ◌∙◌, ap₂, arith}
 use mathlib.Core.List.{map-map}
 use Rattle.std.specs.List.{range_with_len}
-use Rattle.std.proofs.lemmas.List.{length-append, length-map, take_all}
-use Rattle.code.specs.Meaning.{Meaning}
+use Rattle.std.proofs.lemmas.List.{length-append, length-map, take_all, take_at, map-append, append-nil}
+use Rattle.std.proofs.lemmas.Bool.Decides.{nat_tests}
+use Rattle.code.specs.Meaning.{Meaning, Chosen}
 use Rattle.code.specs.Calls.{cut}
 use Rattle.register.specs.Nodes.{Bytes}
 use Rattle.register.specs.Reading.{Numbered, with_piece, numbers, contents, joined}
@@ -46,3 +47,19 @@ module _ (m : Meaning) (p : Pieces ℕ 8) (enough : length (numbers (parts m p))
       let l = length_parts m p in
       let same = take_all m.k (parts m p) (omega arith) in
       ap (λ ps. m.join (numbers ps) (contents ps)) same ∙ ap₂ m.join numbers_are contents_are
+
+-- where the numbers are chosen, the first k in memory are
+pub joined_here : (m : Meaning) (p : Pieces ℕ 8) → m.k ≤ length p.tags → Chosen m.k m.n (numbers (parts m p))
+    → Chosen m.k m.n (take m.k p.tags) × (joined m (parts m p) ≡ m.join (take m.k p.tags) (cut m.k m.w p.bytes))
+joined_here m p few chosen =
+    (subst (Chosen m.k m.n) (numbers_are m p chosen.count few) chosen, joined_is m p chosen.count few)
+
+-- where k are there, one more changes nothing
+pub full : (m : Meaning) (p : Pieces ℕ 8) (qs : List Numbered) → m.k ≤ p.count → take m.k (parts m p ++ qs) ≡ parts m p
+full m p qs enough = let long = length_parts m p in take_at (parts m p) qs m.k (omega arith)
+
+-- and else it is behind the others
+pub behind : (m : Meaning) (p : Pieces ℕ 8) (i : ℕ) (o : Option Bytes) → p.count < m.k → take m.k (parts m p ++ with_piece i o []) ≡ parts m p ++ with_piece i o []
+behind m p i o room = let long = length_parts m p in one_fits m.k (parts m p) i o (omega arith)
+
+pub ruleset added = (nat_tests, full, behind, map-append, append-nil)

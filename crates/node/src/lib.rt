@@ -14,4 +14,4 @@ pub mod stamps;
 
 pub use nodes::Node;
 pub use parts::Parts;
-pub use stamps::Stamp;
+pub use stamps::{Stamp, Stamped};

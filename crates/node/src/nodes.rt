@@ -69,6 +69,7 @@ impl Node {
     }
 
     // A record's piece i goes to the shelf, or where that is full the whole record to the spare.
+    #[tactic(auto, unfolding(register::specs::Nodes::put), using(crate::proofs::Held::counts))]
     fn put<C: Code>(&mut self, i: u8, whole: Stamped)
         ensures { i < C.Code.meaning.n → node_of C.Code.meaning self.new ≡ placed C.Code.meaning i (stamp_of whole.stamp) whole.bytes (node_of C.Code.meaning self.old) }
     {
@@ -105,6 +106,7 @@ impl Node {
     }
 
     /// How many bytes of records the node holds.
+    #[tactic(auto, using(crate::proofs::Held::bytes))]
     pub fn held<C: Code>(&self) -> usize
         ensures { result ≡ held_bytes C.Code.meaning.w (node_of C.Code.meaning self.now) }
     {
@@ -126,8 +128,8 @@ impl Node {
         self.shelf.used::<C>() + usize::from(self.spare.stamp().is_some())
     }
 
-    #[tactic(auto, using(crate::proofs::Held::items))]
     /// The stamp of item j, the spare's coming last; the lowest stamp where there is no such item.
+    #[tactic(auto, using(crate::proofs::Held::items))]
     pub fn stamp_at<C: Code>(&self, j: usize) -> Stamp
         ensures { stamp_of result ≡ slice_index_or (node_stamps (node_of C.Code.meaning self.now)) j lowest }
     {
@@ -141,8 +143,8 @@ impl Node {
         }
     }
 
-    #[tactic(auto, using(crate::proofs::Held::tops))]
     /// The highest count in any stamp of the node, the floor's included.
+    #[tactic(auto, using(crate::proofs::Held::tops))]
     pub fn top_count<C: Code>(&self) -> u32
         ensures { result ≡ list_count (node_of C.Code.meaning self.now).floor.count (node_stamps (node_of C.Code.meaning self.now)) }
     {

@@ -31,17 +31,19 @@ impl Pieces<u8, 8> {
     }
 
     /// One more piece, of node i, if it has one under the stamp and k are not there yet.
+    #[tactic(auto, using(crate::proofs::Picks::added))]
     pub fn add<C: Code>(&mut self, i: u8, node: &Node, stamp: Stamp)
         ensures { parts_of C.Code.meaning self.new ≡ take C.Code.meaning.k (parts_of C.Code.meaning self.old ++ with_piece i (node_piece (stamp_of stamp) (node_of C.Code.meaning node.now)) []) }
     {
-        if self.has_room::<C>() {
-            if let Some(piece) = node.piece_under::<C>(stamp) {
-                self.push::<C>(i, piece);
-            }
+        if self.has_room::<C>()
+            && let Some(piece) = node.piece_under::<C>(stamp)
+        {
+            self.push::<C>(i, piece);
         }
     }
 
     /// The bytes that have these pieces, where they are k with rising numbers of nodes.
+    #[tactic(auto, using(crate::proofs::Picks::joined_here))]
     pub fn joined<C: Code>(&self) -> [u8; 24]
         ensures { Chosen C.Code.meaning.k C.Code.meaning.n (numbers_of (parts_of C.Code.meaning self.now)) → result ≡ joined C.Code.meaning (parts_of C.Code.meaning self.now) }
     {

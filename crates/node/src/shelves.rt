@@ -51,12 +51,14 @@ impl Pieces<Stamp, 6> {
 
     // The place of the first piece under the stamp.
     fn place_of<C: Code>(&self, stamp: Stamp) -> Option<usize>
-        ensures { result ≡ position (λ s. same_stamp (stamp_of s) (stamp_of stamp)) (map (λ x. x.tag) (pieces no_stamp C.Code.meaning self.now)) }
+        ensures used { IfSome result (λ j. j < C.Code.meaning.k) }
+        ensures first { result ≡ position (λ s. same_stamp (stamp_of s) (stamp_of stamp)) (map (λ x. x.tag) (pieces no_stamp C.Code.meaning self.now)) }
     {
         self.tags::<C>().iter().position(|s| s.is(stamp))
     }
 
     // The first piece under the stamp.
+    #[tactic(auto, using(crate::proofs::Held::placed))]
     pub(crate) fn piece_under<C: Code>(&self, stamp: Stamp) -> Option<&[u8]>
         ensures piece { option_map (λ x. x.now) result ≡ shelf_piece (stamp_of stamp) (shelf_of C.Code.meaning self.now) }
         ensures long { IfSome result (λ p. length p.now ≡ C.Code.meaning.w) }
