@@ -50,22 +50,19 @@ cleared_append F (x ∷ xs) ys = go (below x.stamp F) (cleared_append F xs ys)
     go false e = ap (λ v. x ∷ v) e
 
 -- one more piece is cleared
-pub cleared_more : (F : Stamp) (xs : List Item) (j : ℕ) (x z : Item) → j < length xs → get_or xs j z ≡ x → cleared F (take (j + 1) xs) ≡ cleared F (take j xs) ++ cleared F (x ∷ [])
-cleared_more F xs j x z h at = ap (cleared F) (take_more xs j z h ∙ ap (λ y. take j xs ++ (y ∷ [])) at) ∙ cleared_append F (take j xs) (x ∷ [])
-
--- the piece at place j of a shelf
-pub shelf_at : (m : Meaning) (s : Pieces memory.Stamp 6) (ts : List memory.Stamp) (j : ℕ) (d : memory.Stamp) (z : Item) → ts ≡ map (λ x. x.tag) (pieces no_stamp m s) → j < length ts
-    → (j < min s.count m.k) × (get_or (shelf m s) j z ≡ record { stamp = stamp (get_or ts j d); bytes = part m.w s.bytes j })
-shelf_at m s ts j d z tags h =
+pub cleared_next : (F : Stamp) (m : Meaning) (s : Pieces memory.Stamp 6) (j : ℕ) → j < min s.count m.k
+    → cleared F (take (j + 1) (shelf m s))
+    ≡ cleared F (take j (shelf m s)) ++ cleared F (record { stamp = stamp (get_or (map (λ x. x.tag) (pieces no_stamp m s)) j no_stamp); bytes = part m.w s.bytes j } ∷ [])
+cleared_next F m s j h =
     let ps = pieces no_stamp m s in
-    let x : Tagged memory.Stamp = piece_at no_stamp m.w s j in
-    let long = length_tags m s ts tags in
-    let count = length_shelf m s in
-    let used = length_pieces no_stamp m s in
-    let at = pieces_at no_stamp m s j x (omega arith) in
-    let same : get_or ts j d ≡ x.tag =
-    ap (λ v. get_or v j d) tags ∙ get_or-map (λ x. x.tag) ps j x d (omega arith) ∙ ap (λ x. x.tag) at in
-    (omega arith, get_or-map item ps j x z (omega arith) ∙ ap item at ∙ ap (λ t. record { stamp = stamp t; bytes = x.bytes }) (sym same))
+    let x = piece_at no_stamp m.w s j in
+    let long = length_shelf m s in
+    let count = length_pieces no_stamp m s in
+    let at = pieces_at no_stamp m s j x h in
+    let tag = get_or-map (λ x. x.tag) ps j x no_stamp (omega arith) ∙ ap (λ x. x.tag) at in
+    let piece = get_or-map item ps j x (item x) (omega arith) ∙ ap item at in
+    ap (cleared F) (take_more (shelf m s) j (item x) (omega arith)) ∙ cleared_append F (take j (shelf m s)) _
+    ∙ ap (λ y. cleared F (take j (shelf m s)) ++ cleared F (y ∷ [])) (piece ∙ ap (λ t. record { stamp = stamp t; bytes = x.bytes }) (sym tag))
 
 -- the stamps of pieces are what their tags mean
 stamps_at : (xs : List (Tagged memory.Stamp)) → shelf_stamps (map item xs) ≡ map stamp (map (λ x. x.tag) xs)

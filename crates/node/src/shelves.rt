@@ -39,6 +39,7 @@ impl Pieces<Stamp, 6> {
     }
 
     // The pieces under the floor or above, in their order.
+    #[tactic(auto, unfolding(register::specs::Nodes::cleared), using(crate::proofs::Held::cleared_next))]
     pub(crate) fn cleared<C: Code>(&self, floor: Stamp) -> Shelf
         ensures { shelf_of C.Code.meaning result ≡ cleared (stamp_of floor) (shelf_of C.Code.meaning self.now) }
     {
