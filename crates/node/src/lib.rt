@@ -7,6 +7,7 @@
 
 pub mod nodes;
 pub mod parts;
+pub mod piece_of;
 pub mod pieces;
 pub mod shelves;
 pub mod spares;
@@ -14,4 +15,5 @@ pub mod stamps;
 
 pub use nodes::Node;
 pub use parts::Parts;
+pub use piece_of::PieceOf;
 pub use stamps::{Stamp, Stamped};

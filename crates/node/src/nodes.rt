@@ -9,6 +9,7 @@ ghost use Rattle.register.specs.Reading.{node_piece, spare_record, node_stamps, 
 ghost use Rattle.node.specs.Stamped.{stamp as stamp_of};
 ghost use Rattle.node.specs.Views.{node as node_of};
 
+use crate::piece_of::PieceOf;
 use crate::shelves::Shelf;
 use crate::spares::Spare;
 use crate::stamps::{Stamp, Stamped};
@@ -156,9 +157,8 @@ impl Node {
 
     /// The piece under a stamp.
     #[tactic(auto, unfolding(register::specs::Reading::node_piece))]
-    pub fn piece_under<C: Code>(&self, stamp: Stamp) -> Option<&[u8]>
-        ensures piece { option_map (λ x. x.now) result ≡ node_piece (stamp_of stamp) (node_of C.Code.meaning self.now) }
-        ensures long { IfSome result (λ p. length p.now ≡ C.Code.meaning.w) }
+    pub fn piece_under<C: Code>(&self, stamp: Stamp) -> Option<PieceOf<'_, C>>
+        ensures { option_map (λ x. x.bytes.now) result ≡ node_piece (stamp_of stamp) (node_of C.Code.meaning self.now) }
     {
         self.shelf
             .piece_under::<C>(stamp)

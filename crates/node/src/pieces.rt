@@ -1,9 +1,9 @@
 //! Pieces of a code, one after the other in a block of bytes, each with a tag.
 ghost use Rattle.std.specs.Prelude.{◌≡◌, ◌+◌, ◌*◌, ◌<◌, ◌≤◌, min, [], ◌∷◌, ◌++◌, map, length, nat_lt};
 ghost use Rattle.code.specs.Meaning.{Meaning};
-ghost use Rattle.code.specs.Calls.{part};
 ghost use Rattle.node.specs.Tagged.{pieces as pieces_of};
 
+use crate::piece_of::PieceOf;
 use code::Code;
 
 /// At most k pieces of w bytes for a code's k and w, each with a tag: the stamp that it stands under, or its node's number.
@@ -51,28 +51,17 @@ impl<T: Copy + Default, const MAX: usize> Pieces<T, MAX> {
         &self.tags[..self.used::<C>()]
     }
 
-    // The piece at place j.
-    pub(crate) fn at<C: Code>(&self, j: usize) -> &[u8]
-        requires { j < C.Code.meaning.k }
-        ensures piece { result.now ≡ part C.Code.meaning.w self.now.bytes j }
-        ensures long { length result.now ≡ C.Code.meaning.w }
-    {
-        let w = C::width();
-        &self.bytes[j * w..j * w + w]
-    }
-
     // One more piece, behind the others.
-    pub(crate) fn push<C: Code>(&mut self, tag: T, piece: &[u8])
+    pub(crate) fn push<C: Code>(&mut self, tag: T, piece: PieceOf<'_, C>)
         requires places { C.Code.meaning.k ≤ MAX }
         requires room { self.old.count < C.Code.meaning.k }
-        requires long { length piece.now ≡ C.Code.meaning.w }
         ensures counted { self.new.count ≡ self.old.count + 1 }
-        ensures longer { (d : T) → pieces_of d C.Code.meaning self.new ≡ pieces_of d C.Code.meaning self.old ++ (record { tag = tag; bytes = piece.now } ∷ []) }
+        ensures longer { (d : T) → pieces_of d C.Code.meaning self.new ≡ pieces_of d C.Code.meaning self.old ++ (record { tag = tag; bytes = piece.entry.bytes.now } ∷ []) }
     {
         let j = usize::from(self.count);
         let w = C::width();
         self.tags[j] = tag;
-        self.bytes[j * w..j * w + w].copy_from_slice(piece);
+        self.bytes[j * w..j * w + w].copy_from_slice(piece.bytes);
         self.count += 1;
     }
 }

@@ -8,6 +8,7 @@ ghost use Rattle.node.specs.Stamped.{stamp as stamp_of};
 ghost use Rattle.node.specs.Tagged.{pieces};
 ghost use Rattle.node.specs.Shelved.{no_stamp, shelf as shelf_of};
 
+use crate::piece_of::PieceOf;
 use crate::pieces::Pieces;
 use crate::stamps::{Stamp, Stamped};
 use code::Code;
@@ -22,16 +23,15 @@ impl Pieces<Stamp, 6> {
         ensures { i < C.Code.meaning.n → shelf_of C.Code.meaning self.new ≡ shelf_of C.Code.meaning self.old ++ (record { stamp = stamp_of whole.stamp; bytes = C.Code.meaning.piece whole.bytes i } ∷ []) }
     {
         let piece = C::encode(whole.bytes, i);
-        self.push::<C>(whole.stamp, &piece[..C::width()]);
+        self.push::<C>(whole.stamp, PieceOf::at(&piece, 0));
     }
 
     // Takes over a piece, unless its stamp is below the floor.
     #[tactic(auto, unfolding(register::specs::Nodes::cleared))]
-    fn keep<C: Code>(&mut self, stamp: Stamp, piece: &[u8], floor: Stamp)
-        requires room { self.old.count < C.Code.meaning.k }
-        requires long { length piece.now ≡ C.Code.meaning.w }
+    fn keep<C: Code>(&mut self, stamp: Stamp, piece: PieceOf<'_, C>, floor: Stamp)
+        requires { self.old.count < C.Code.meaning.k }
         ensures counted { self.new.count ≤ self.old.count + 1 }
-        ensures longer { shelf_of C.Code.meaning self.new ≡ shelf_of C.Code.meaning self.old ++ cleared (stamp_of floor) (record { stamp = stamp_of stamp; bytes = piece.now } ∷ []) }
+        ensures longer { shelf_of C.Code.meaning self.new ≡ shelf_of C.Code.meaning self.old ++ cleared (stamp_of floor) (record { stamp = stamp_of stamp; bytes = piece.entry.bytes.now } ∷ []) }
     {
         if !stamp.is_below(floor) {
             self.push::<C>(stamp, piece);
@@ -45,7 +45,7 @@ impl Pieces<Stamp, 6> {
     {
         let mut rest = Shelf::empty();
         for (j, stamp) in self.tags::<C>().iter().enumerate() {
-            rest.keep::<C>(*stamp, self.at::<C>(j), floor);
+            rest.keep::<C>(*stamp, PieceOf::at(&self.bytes, j), floor);
         }
         rest
     }
@@ -60,11 +60,10 @@ impl Pieces<Stamp, 6> {
 
     // The first piece under the stamp.
     #[tactic(auto, using(crate::proofs::Held::placed))]
-    pub(crate) fn piece_under<C: Code>(&self, stamp: Stamp) -> Option<&[u8]>
-        ensures piece { option_map (λ x. x.now) result ≡ shelf_piece (stamp_of stamp) (shelf_of C.Code.meaning self.now) }
-        ensures long { IfSome result (λ p. length p.now ≡ C.Code.meaning.w) }
+    pub(crate) fn piece_under<C: Code>(&self, stamp: Stamp) -> Option<PieceOf<'_, C>>
+        ensures { option_map (λ x. x.bytes.now) result ≡ shelf_piece (stamp_of stamp) (shelf_of C.Code.meaning self.now) }
     {
         let j = self.place_of::<C>(stamp)?;
-        Some(self.at::<C>(j))
+        Some(PieceOf::at(&self.bytes, j))
     }
 }

@@ -7,6 +7,7 @@ ghost use Rattle.register.specs.Reading.{spare_piece, spare_record};
 ghost use Rattle.node.specs.Stamped.{stamp as stamp_of};
 ghost use Rattle.node.specs.Spared.{spare as spare_of, stamp_in};
 
+use crate::piece_of::PieceOf;
 use crate::stamps::{Stamp, Stamped};
 use code::Code;
 
@@ -67,12 +68,11 @@ impl Spare {
 
     // The piece under the stamp.
     #[tactic(auto, unfolding(register::specs::Reading::spare_piece))]
-    pub(crate) fn piece_under<C: Code>(&self, stamp: Stamp) -> Option<&[u8]>
-        ensures piece { option_map (λ x. x.now) result ≡ spare_piece (stamp_of stamp) (spare_of C.Code.meaning self.now) }
-        ensures long { IfSome result (λ p. length p.now ≡ C.Code.meaning.w) }
+    pub(crate) fn piece_under<C: Code>(&self, stamp: Stamp) -> Option<PieceOf<'_, C>>
+        ensures { option_map (λ x. x.bytes.now) result ≡ spare_piece (stamp_of stamp) (spare_of C.Code.meaning self.now) }
     {
         match self {
-            Spare::Piece(held) if held.stamp.is(stamp) => Some(&held.bytes[..C::width()]),
+            Spare::Piece(held) if held.stamp.is(stamp) => Some(PieceOf::at(&held.bytes, 0)),
             _ => None,
         }
     }

@@ -1,0 +1,28 @@
+//! A piece of a code.
+ghost use Rattle.std.specs.Prelude.{◌≡◌, ◌<◌, length};
+ghost use Rattle.code.specs.Calls.{part};
+
+use code::Code;
+use std::marker::PhantomData;
+
+/// The w bytes of a piece, for the code's w.
+#[derive(Drop)]
+pub struct PieceOf<'a, C: Code> {
+    pub bytes: &'a [u8],
+    code: PhantomData<C>,
+    pub ghost long: { length bytes.now ≡ C.Code.meaning.w },
+}
+
+impl<'a, C: Code> PieceOf<'a, C> {
+    // The piece at place j of a block that is cut into k places.
+    pub(crate) fn at(block: &'a [u8; 24], j: usize) -> PieceOf<'a, C>
+        requires { j < C.Code.meaning.k }
+        ensures { result.bytes.now ≡ part C.Code.meaning.w block.now j }
+    {
+        let w = C::width();
+        PieceOf {
+            bytes: &block[j * w..j * w + w],
+            code: PhantomData,
+        }
+    }
+}
