@@ -1,4 +1,4 @@
--- The stamps on a shelf, what a floor leaves of it, and the stamps of a node.
+-- What a floor leaves of a shelf, the first piece under a stamp, and the stamps and bytes of a node.
 use Rattle.std.proofs.Common.{◌≡◌, ℕ, zero, suc, ◌+◌, ◌*◌, ◌<◌, ◌≤◌, min, max, ◌==◌, nat_lt, take, Bool, true, false, cond, List, [], ◌∷◌, ◌++◌, map, length, Some, None, Option, get_or, inl, inr, refl, sym, ap, ◌∙◌, ap₂, arith}
 use Rattle.std.specs.List.{position, position_or_len, find, slice_get, cons_option, fold}
 use Rattle.std.specs.Option.{option_map, is_some, unwrap_or}
@@ -9,7 +9,7 @@ use Rattle.std.proofs.lemmas.List.Quantifiers.{position-Some}
 use Rattle.std.proofs.lemmas.List.Folds.{find_at}
 use Rattle.std.proofs.lemmas.Bool.Decides.{nat_tests}
 use Rattle.std.proofs.iter.runs.Made.{chains}
-use mir.Val.{bool_byte}
+use Rattle.std.specs.Int.{from_bool}
 use Rattle.code.specs.Meaning.{Meaning, Lawful}
 use Rattle.register.specs.Stamps.{Stamp, below, same_stamp, lowest}
 use Rattle.register.specs.Nodes.{Item, cleared, held_bytes, spare_bytes}
@@ -32,14 +32,8 @@ use Rattle.node.proofs.Listed.{length_pieces, pieces_at}
 pub length_shelf : (m : Meaning) (s : Pieces memory.Stamp 6) → length (shelf m s) ≡ min s.count m.k
 length_shelf m s = length-map (pieces no_stamp m s) item ∙ length_pieces no_stamp m s
 
--- as many as there are tags
-pub length_tags : (m : Meaning) (s : Pieces memory.Stamp 6) (ts : List memory.Stamp) → ts ≡ map (λ x. x.tag) (pieces no_stamp m s) → length ts ≡ length (shelf m s)
-length_tags m s ts tags =
-    let ps = pieces no_stamp m s in
-    ap length tags ∙ length-map ps (λ x. x.tag) ∙ sym (length-map ps item)
-
 -- clearing goes piece by piece
-pub cleared_append : (F : Stamp) (xs ys : List Item) → cleared F (xs ++ ys) ≡ cleared F xs ++ cleared F ys
+cleared_append : (F : Stamp) (xs ys : List Item) → cleared F (xs ++ ys) ≡ cleared F xs ++ cleared F ys
 unfolding cleared
 cleared_append F [] ys = refl
 cleared_append F (x ∷ xs) ys = go (below x.stamp F) (cleared_append F xs ys)
@@ -95,24 +89,24 @@ top_of n (t ∷ ts) = top_of (max n t.count) ts
 -- the stamps of a node
 module _ (m : Meaning) (a : Node) where
   -- those on the shelf and that of the spare, as they are in memory
-  abbrev pub in_memory : List memory.Stamp
+  abbrev in_memory : List memory.Stamp
   in_memory = map (λ x. x.tag) (pieces no_stamp m a.shelf) ++ cons_option (stamp_in a.spare) []
 
   -- there are no others
-  pub stamps_are : node_stamps (node m a) ≡ map stamp in_memory
+  stamps_are : node_stamps (node m a) ≡ map stamp in_memory
   unfolding node_stamps
   stamps_are =
       ap₂ ◌++◌ (stamps_at (pieces no_stamp m a.shelf)) (stamps_in m a.spare)
       ∙ sym (map-append stamp (map (λ x. x.tag) (pieces no_stamp m a.shelf)) (cons_option (stamp_in a.spare) []))
 
   -- how many there are
-  pub length_stamps : length (node_stamps (node m a)) ≡ min a.shelf.count m.k + bool_byte (is_some (stamp_in a.spare))
+  pub length_stamps : length (node_stamps (node m a)) ≡ min a.shelf.count m.k + from_bool (is_some (stamp_in a.spare))
   length_stamps =
       let ps = pieces no_stamp m a.shelf in
       let shelf = length-map ps (λ x. x.tag) ∙ length_pieces no_stamp m a.shelf in
       ap length stamps_are ∙ length-map in_memory stamp ∙ length-append (map (λ x. x.tag) ps) (cons_option (stamp_in a.spare) []) ∙ ap₂ ◌+◌ shelf (one (stamp_in a.spare))
     where
-      one : (o : Option memory.Stamp) → length (cons_option o []) ≡ bool_byte (is_some o)
+      one : (o : Option memory.Stamp) → length (cons_option o []) ≡ from_bool (is_some o)
       one None = refl
       one (Some t) = refl
 
@@ -141,10 +135,6 @@ module _ (m : Meaning) (a : Node) where
       let few = most m l (node m a) (omega arith) in
       let is = held_is in
       omega arith
-
-pub ruleset items = (nat_tests, stamp_item)
-
-pub ruleset tops = (chains, top_stamp)
 
 -- the first piece under a stamp
 piece_found : (t : Stamp) (xs : List (Tagged memory.Stamp)) → shelf_piece t (map item xs) ≡ option_map (λ x. x.bytes) (find (λ x. same_stamp (stamp x.tag) t) xs)
@@ -209,8 +199,13 @@ module _ (t : Stamp) (m : Meaning) (s : Pieces memory.Stamp 6) where
       let z = piece_at no_stamp m.w s 0 in
       placed_first t z (pieces no_stamp m s) ∙ ap (option_map (λ j. (get_or (pieces no_stamp m s) j z).bytes)) none
 
+-- what each function's proof is given
+pub ruleset counts = (nat_tests, length_shelf)
+
 pub ruleset placed = (place_used, piece_there, piece_nowhere)
 
-pub ruleset counts = (nat_tests, length_shelf)
+pub ruleset items = (nat_tests, stamp_item)
+
+pub ruleset tops = (chains, top_stamp)
 
 pub ruleset bytes = (held_is, held_few)

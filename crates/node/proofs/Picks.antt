@@ -18,7 +18,7 @@ pub length_parts : (m : Meaning) (p : Pieces ℕ 8) → length (parts m p) ≡ m
 length_parts m p = length-map (pieces 0 m p) numbered ∙ length_pieces 0 m p
 
 -- where fewer than k are there, the first k have room for one more
-pub one_fits : (k : ℕ) (ps : List Numbered) (i : ℕ) (o : Option Bytes) → length ps < k → take k (ps ++ with_piece i o []) ≡ ps ++ with_piece i o []
+one_fits : (k : ℕ) (ps : List Numbered) (i : ℕ) (o : Option Bytes) → length ps < k → take k (ps ++ with_piece i o []) ≡ ps ++ with_piece i o []
 one_fits k ps i None h = let l = length-append ps [] in take_all k (ps ++ []) (omega arith)
 one_fits k ps i (Some b) h =
     let last : List Numbered = record { number = i; bytes = b } ∷ [] in
@@ -32,7 +32,7 @@ module _ (m : Meaning) (p : Pieces ℕ 8) (enough : length (numbers (parts m p))
   all_there = sym (length_parts m p) ∙ sym (length-map (parts m p) (λ q. q.number)) ∙ enough
 
   -- their numbers are the first k
-  pub numbers_are : numbers (parts m p) ≡ take m.k p.tags
+  numbers_are : numbers (parts m p) ≡ take m.k p.tags
   numbers_are = map-map (λ q. q.number) numbered (pieces 0 m p) ∙ tags_are 0 m p few ∙ ap (λ n. take n p.tags) all_there
 
   -- and their bytes the block cut into k places
@@ -42,7 +42,7 @@ module _ (m : Meaning) (p : Pieces ℕ 8) (enough : length (numbers (parts m p))
       ∙ ap (λ n. cut n m.w p.bytes) all_there
 
   -- so joining them joins what is in memory
-  pub joined_is : joined m (parts m p) ≡ m.join (take m.k p.tags) (cut m.k m.w p.bytes)
+  joined_is : joined m (parts m p) ≡ m.join (take m.k p.tags) (cut m.k m.w p.bytes)
   joined_is =
       let l = length_parts m p in
       let same = take_all m.k (parts m p) (omega arith) in

@@ -17,10 +17,6 @@ module _ {A : Type 0} {max : ℕ} (d : A) where
   abbrev pub piece_at : ℕ → Pieces A max → ℕ → Tagged A
   piece_at w p j = record { tag = slice_index_or p.tags j d; bytes = part w p.bytes j }
 
-  -- The pieces in the first places.
-  abbrev pub first : ℕ → ℕ → Pieces A max → List (Tagged A)
-  first w count p = map (piece_at w p) (range_with_len 0 count)
-
-  -- As many places are in use as the count says, and never more than k.
+  -- The pieces in the first places: as many are in use as the count says, and never more than k.
   abbrev pub pieces : Meaning → Pieces A max → List (Tagged A)
-  pieces m p = first m.w (min p.count m.k) p
+  pieces m p = map (piece_at m.w p) (range_with_len 0 (min p.count m.k))
