@@ -1,8 +1,9 @@
 //! Bytes as hex digits.
-ghost use Rattle.std.specs.Prelude.{◌≡◌, ◌<◌, IfSome};
+ghost use Rattle.std.specs.Prelude.{◌≡◌, ◌<◌, IfSome, slice_index};
+ghost use Rattle.std.specs.Result.{result_ok};
 ghost use Rattle.spread.specs.Hex.{Read, byte_of, digit_of};
 
-use std::alloc::Global;
+use std::fmt;
 
 // The value of a hex digit.
 fn digit(b: u8) -> Option<u8>
@@ -17,34 +18,37 @@ fn digit(b: u8) -> Option<u8>
     }
 }
 
-// The byte of two hex digits.
-fn byte(high: u8, low: u8) -> Option<u8>
-    ensures { result ≡ byte_of (digit_of high) (digit_of low) }
+// The byte of two hex digits, if they are.
+fn byte(digits: [u8; 2]) -> Result<u8, ()>
+    ensures { result_ok result ≡ byte_of (digit_of (slice_index digits 0)) (digit_of (slice_index digits 1)) }
 {
-    let high = digit(high)?;
-    let low = digit(low)?;
-    Some(high * 16 + low)
+    let [high, low] = digits;
+    let (Some(high), Some(low)) = (digit(high), digit(low)) else {
+        return Err(());
+    };
+    Ok(high * 16 + low)
 }
 
 /// The 24 bytes of 48 hex digits.
 pub(crate) fn bytes_of(line: &[u8]) -> Option<[u8; 24]>
     ensures { Read line.now result }
 {
-    if line.len() != 48 {
+    let (pairs, []) = line.as_chunks::<2>() else {
         return None;
-    }
-    let mut bytes = [0; 24];
-    for i in 0..24usize {
-        bytes[i] = byte(line[2 * i], line[2 * i + 1])?;
-    }
-    Some(bytes)
+    };
+    let pairs: [[u8; 2]; 24] = pairs.try_into().ok()?;
+    pairs.try_map(byte).ok()
 }
 
-/// Two hex digits for each byte.
-pub(crate) fn digits(heap: Global, bytes: &[u8]) -> anyhow::Result<String> {
-    let mut text = String::new(heap);
-    for b in bytes {
-        write!(text, "{b:02x}")?;
+/// Bytes, printed as two hex digits each.
+#[derive(Clone, Copy)]
+pub(crate) struct Hex<'a>(pub &'a [u8]);
+
+impl fmt::Display for Hex<'_> {
+    fn fmt<W: fmt::Write>(&self, f: &mut fmt::Formatter<W>) -> fmt::Result {
+        for b in self.0 {
+            write!(f, "{b:02x}")?;
+        }
+        Ok(())
     }
-    Ok(text)
 }

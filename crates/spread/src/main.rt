@@ -8,89 +8,103 @@ mod hex;
 mod trials;
 
 use code::{C3, C5, Code};
+use hex::Hex;
 use parity::P6;
 use record::{Record, RecordError};
 use std::alloc::Global;
-use std::io::{BufRead, BufReader};
-use trials::Survival;
+use std::fmt;
+use std::io::BufRead;
+use trials::{Nodes, Survival};
 use whiten::W6;
+
+/// A code with the name that the output gives it.
+trait Named: Code {
+    const NAME: &'static str;
+}
+
+impl Named for C3 {
+    const NAME: &'static str = "C3";
+}
+
+impl Named for C5 {
+    const NAME: &'static str = "C5";
+}
+
+impl Named for P6 {
+    const NAME: &'static str = "P6";
+}
+
+impl Named for W6 {
+    const NAME: &'static str = "W6";
+}
+
+/// The five fields of a record, parted by tabs.
+#[derive(Clone, Copy)]
+struct Fields<'a>(&'a Record);
+
+impl fmt::Display for Fields<'_> {
+    fn fmt<W: fmt::Write>(&self, f: &mut fmt::Formatter<W>) -> fmt::Result {
+        let record = self.0;
+        let letter = record.unit.letter();
+        write!(
+            f,
+            "{}\t{letter}\t{}\t",
+            record.parameter, record.exponent.value
+        )?;
+        for b in record.name.bytes.trim_ascii_end() {
+            write!(f, "{}", char::from(*b))?;
+        }
+        write!(f, "\t{}", record.number.value)
+    }
+}
 
 // The record of a line, or its refusal: what is not 48 hex digits is not 24 bytes.
 fn record_of(line: &[u8]) -> Result<Record, RecordError> {
-    match hex::bytes_of(line) {
-        Some(bytes) => Record::from_bytes(&bytes),
-        None => Err(RecordError::Length),
-    }
-}
-
-// The name without its ending spaces, as text.
-fn name_of(heap: Global, record: &Record) -> anyhow::Result<String> {
-    let mut text = String::new(heap);
-    let mut spaces = 0usize;
-    for b in record.name.bytes.iter() {
-        if *b == b' ' {
-            spaces = spaces.saturating_add(1);
-            continue;
-        }
-        for _ in 0..spaces {
-            text.push(' ')?;
-        }
-        spaces = 0;
-        text.push(*b as char)?;
-    }
-    Ok(text)
-}
-
-// The five fields of a record, parted by tabs.
-fn fields_of(heap: Global, record: &Record) -> anyhow::Result<String> {
-    let name = name_of(heap, record)?;
-    let parameter = record.parameter;
-    let letter = record.unit.letter();
-    let exponent = record.exponent.value;
-    let number = record.number.value;
-    Ok(format!(in heap; "{parameter}\t{letter}\t{exponent}\t{name}\t{number}")?)
+    Record::from_bytes(&hex::bytes_of(line).ok_or(RecordError::Length)?)
 }
 
 // A line for each node, with its piece.
-fn show_pieces(rt: &HostRuntime, code: &str, pieces: &[Vec<u8>]) -> anyhow::Result<()> {
-    for (node, piece) in pieces.iter().enumerate() {
-        let digits = hex::digits(rt.alloc(), piece.as_slice())?;
-        println!(rt; "{code} node {node} {digits}")?;
+fn show_pieces<C: Named>(rt: &impl Print, nodes: &Nodes<C>) -> anyhow::Result<()> {
+    for (node, piece) in nodes.pieces().iter().enumerate() {
+        println!(rt; "{} node {node} {}", C::NAME, Hex(piece.as_slice()))?;
     }
     Ok(())
 }
 
 // From how many choices of silent nodes a record came back, and what came back.
-fn show_survival(rt: &HostRuntime, code: &str, silent: usize, all: Survival) -> anyhow::Result<()> {
-    let survived = all.survived;
-    let choices = all.choices;
-    let fields = match Record::from_bytes(&all.rebuilt) {
-        Ok(rebuilt) => fields_of(rt.alloc(), &rebuilt)?,
-        Err(_) => String::new(rt.alloc()),
-    };
-    println!(rt;
-        "{code} with {silent} silent: {survived} of {choices} choices give back\t{fields}"
+fn show_survival<C: Named>(rt: &impl Print, all: Survival) -> anyhow::Result<()> {
+    let Survival {
+        choices,
+        survived,
+        rebuilt,
+    } = all;
+    print!(rt;
+        "{} with {} silent: {survived} of {choices} choices give back\t",
+        C::NAME,
+        C::silent()
     )?;
+    match rebuilt.and_then(|bytes| Record::from_bytes(&bytes).ok()) {
+        Some(record) => println!(rt; "{}", Fields(&record))?,
+        None => println!(rt; "")?,
+    }
     Ok(())
 }
 
 // Spreads a record, and silences as many nodes as the code bears.
-fn show<C: Code>(rt: &HostRuntime, code: &str, record: &Record) -> anyhow::Result<()> {
-    let whole = record.to_bytes();
-    let pieces = trials::pieces_of::<C>(rt.alloc(), &whole)?;
-    show_pieces(rt, code, pieces.as_slice())?;
-    let all = trials::silence_all::<C>(rt.alloc(), pieces.as_slice(), &whole)?;
-    show_survival(rt, code, C::silent(), all)
+fn show<C: Named>(rt: &(impl Print + Alloc<A = Global>), record: &Record) -> anyhow::Result<()> {
+    let nodes = Nodes::<C>::of(rt.alloc(), &record.to_bytes())?;
+    show_pieces(rt, &nodes)?;
+    show_survival::<C>(rt, nodes.silence_all()?)
 }
 
-fn answer(rt: &HostRuntime, line: &[u8]) -> anyhow::Result<()> {
+fn answer(rt: &(impl Print + Alloc<A = Global>), line: &[u8]) -> anyhow::Result<()> {
     match record_of(line) {
         Ok(record) => {
-            println!(rt; "{}", fields_of(rt.alloc(), &record)?)?;
-            show::<C3>(rt, "C3", &record)?;
-            show::<C5>(rt, "C5", &record)?;
-            show::<P6>(rt, "P6", &record)?;
-            show::<W6>(rt, "W6", &record)
+            println!(rt; "{}", Fields(&record))?;
+            show::<C3>(rt, &record)?;
+            show::<C5>(rt, &record)?;
+            show::<P6>(rt, &record)?;
+            show::<W6>(rt, &record)
         }
         Err(e) => {
             println!(rt; "NO {}", e.number())?;
@@ -99,10 +113,9 @@ fn answer(rt: &HostRuntime, line: &[u8]) -> anyhow::Result<()> {
     }
 }
 
-fn run(rt: &HostRuntime) -> anyhow::Result<()> {
-    for line in BufReader::new(rt.alloc(), rt.stdin())?.split(rt.alloc(), b'\n') {
-        let line = line?;
-        answer(rt, line.as_slice())?;
+fn run(rt: &(impl Input + Print + Alloc<A = Global>)) -> anyhow::Result<()> {
+    for line in rt.reader().split(rt.alloc(), b'\n') {
+        answer(rt, line?.as_slice())?;
     }
     Ok(())
 }

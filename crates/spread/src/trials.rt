@@ -1,11 +1,27 @@
 //! A record spread over nodes, and what comes back where some of them are silent.
-ghost use Rattle.std.specs.Prelude.{◌≡◌, ℕ, ◌%◌, List, IfOk};
+ghost use Rattle.std.specs.Prelude.{◌≡◌, ℕ, List, IfOk};
 ghost use Rattle.code.specs.Bytes.{Bytes};
 ghost use Rattle.spread.specs.Trials.{Picked, Spread};
 
 use anyhow::anyhow;
 use code::{Code, Piece};
-use std::alloc::Global;
+use std::alloc::{AllocError, Global};
+use std::marker::PhantomData;
+
+// A code refuses neither the pieces that it made nor places of the right size.
+const REFUSED: &str = "a code refused its own piece";
+
+/// A record, and the nodes of a code, each of which holds its piece of the record.
+#[derive(Drop)]
+pub(crate) struct Nodes<C: Code> {
+    heap: Global,
+    whole: [u8; 24],
+    // the piece of node i at i
+    pieces: Vec<Vec<u8>>,
+    code: PhantomData<C>,
+    ghost bytes: { Bytes 24 whole },
+    ghost each: { Spread C.Code.meaning whole pieces.items },
+}
 
 /// What came of silencing every set of as many nodes as a code bears.
 #[derive(Clone, Copy)]
@@ -15,102 +31,109 @@ pub(crate) struct Survival {
     /// with how many of them silent the record came back
     pub survived: u32,
     /// what came back last
-    pub rebuilt: [u8; 24],
+    pub rebuilt: Option<[u8; 24]>,
 }
-
-// A code refuses neither the pieces that it made nor places of the right size.
-const REFUSED: &str = "a code refused its own piece";
 
 // The piece of one node.
-fn piece_of<C: Code>(heap: Global, whole: &[u8], node: usize) -> anyhow::Result<Vec<u8>>
-    ensures { IfOk result (λ v. v.items ≡ C.Code.meaning.piece whole.now (node % 256)) }
+fn piece_of<C: Code>(heap: Global, whole: &[u8; 24], number: u8) -> anyhow::Result<Vec<u8>>
+    ensures { IfOk result (λ v. v.items ≡ C.Code.meaning.piece whole.now number) }
 {
     let mut piece = vec![in heap; 0u8; C::width()]?;
-    match C::make(whole, (node % 256) as u8, piece.as_mut_slice()) {
-        Ok(()) => Ok(piece),
-        Err(_) => Err(anyhow!(REFUSED)),
-    }
+    C::make(whole, number, piece.as_mut_slice()).map_err(|_| anyhow!(REFUSED))?;
+    Ok(piece)
 }
 
-/// The pieces of a record, the one of node i at i.
-pub(crate) fn pieces_of<C: Code>(heap: Global, whole: &[u8]) -> anyhow::Result<Vec<Vec<u8>>>
+// The pieces of a record, the one of node i at i.
+fn pieces_of<C: Code>(heap: Global, whole: &[u8; 24]) -> anyhow::Result<Vec<Vec<u8>>>
     ensures { IfOk result (λ v. Spread C.Code.meaning whole.now v.items) }
 {
     let mut pieces = Vec::new(heap);
     for node in 0..C::nodes() {
-        pieces.push(piece_of::<C>(heap, whole, node)?)?;
+        pieces.push(piece_of::<C>(heap, whole, node as u8)?)?;
     }
     Ok(pieces)
 }
 
-// The pieces of the first k nodes that are not silent.
-fn chosen<'a, C: Code>(
-    heap: Global,
-    pieces: &'a [Vec<u8>],
-    silent: u32,
-) -> anyhow::Result<Vec<Piece<'a>>>
-    ensures { IfOk result (λ v. Picked C.Code.meaning pieces.now v.items) }
-{
-    let mut picked = Vec::new(heap);
-    for (node, piece) in pieces.iter().enumerate() {
-        if silent >> (node % 32) & 1 == 0 && picked.len() < C::needed() {
-            picked.push(Piece {
-                number: (node % 256) as u8,
-                bytes: piece.as_slice(),
-            })?;
-        }
+impl<C: Code> Nodes<C> {
+    /// Spreads a record over the nodes.
+    pub(crate) fn of(heap: Global, whole: &[u8; 24]) -> anyhow::Result<Nodes<C>>
+        ensures { IfOk result (λ s. s.whole ≡ whole.now) }
+    {
+        let pieces = pieces_of::<C>(heap, whole)?;
+        Ok(Nodes {
+            heap,
+            whole: *whole,
+            pieces,
+            code: PhantomData,
+        })
     }
-    Ok(picked)
-}
 
-// What k nodes that are not silent give back.
-fn rebuild<C: Code>(heap: Global, pieces: &[Vec<u8>], silent: u32) -> anyhow::Result<[u8; 24]>
-    ensures { (x : List ℕ) → Bytes 24 x → Spread C.Code.meaning x pieces.now → IfOk result (λ y. y ≡ x) }
-{
-    let picked = chosen::<C>(heap, pieces, silent)?;
-    let mut whole = [0; 24];
-    match C::join(picked.as_slice(), &mut whole) {
-        Ok(()) => Ok(whole),
-        Err(_) => Err(anyhow!(REFUSED)),
+    /// The piece of each node.
+    pub(crate) fn pieces(&self) -> &[Vec<u8>]
+        ensures { Spread C.Code.meaning self.now.whole result.now }
+    {
+        self.pieces.as_slice()
+    }
+
+    // The pieces of the first k nodes that are not silent.
+    fn chosen(&self, silent: u32) -> Result<Vec<Piece<'_>>, AllocError>
+        ensures { IfOk result (λ v. Picked C.Code.meaning self.now.pieces.items v.items) }
+    {
+        (0..C::nodes() as u8)
+            .zip(&self.pieces)
+            .filter(|(number, _)| silent >> (number % 32) & 1 == 0)
+            .take(C::needed())
+            .map(|(number, piece)| Piece {
+                number,
+                bytes: piece.as_slice(),
+            })
+            .collect(self.heap)
+    }
+
+    // What k nodes that are not silent give back.
+    fn rebuild(&self, silent: u32) -> anyhow::Result<[u8; 24]>
+        ensures { (x : List ℕ) → Bytes 24 x → Spread C.Code.meaning x self.now.pieces.items → IfOk result (λ y. y ≡ x) }
+    {
+        let picked = self.chosen(silent)?;
+        let mut whole = [0; 24];
+        C::join(picked.as_slice(), &mut whole).map_err(|_| anyhow!(REFUSED))?;
+        Ok(whole)
+    }
+
+    /// Silences each set of f nodes in turn. The record comes back from every choice.
+    pub(crate) fn silence_all(&self) -> anyhow::Result<Survival>
+        ensures { IfOk result (λ s. s.survived ≡ s.choices) }
+    {
+        let mut all = Survival::new();
+        for silent in 0..1u32 << C::nodes() {
+            if silent.count_ones() as usize == C::silent() {
+                all = all.noted(self.rebuild(silent)?, &self.whole);
+            }
+        }
+        Ok(all)
     }
 }
 
 impl Survival {
+    fn new() -> Survival
+        ensures { result.survived ≡ result.choices }
+    {
+        Survival {
+            choices: 0,
+            survived: 0,
+            rebuilt: None,
+        }
+    }
+
     // One choice more, and what it gave back.
-    fn noted(self, rebuilt: [u8; 24], whole: &[u8]) -> Survival
+    fn noted(self, rebuilt: [u8; 24], whole: &[u8; 24]) -> Survival
         ensures { rebuilt ≡ whole.now → self.survived ≡ self.choices → result.survived ≡ result.choices }
     {
-        let choices = self.choices.saturating_add(1);
-        let survived = if rebuilt.as_slice() == whole {
-            self.survived.saturating_add(1)
-        } else {
-            self.survived
-        };
+        let back = u32::from(rebuilt == *whole);
         Survival {
-            choices,
-            survived,
-            rebuilt,
+            choices: self.choices.saturating_add(1),
+            survived: self.survived.saturating_add(back),
+            rebuilt: Some(rebuilt),
         }
     }
-}
-
-/// Silences each set of f nodes in turn. A record comes back from every choice.
-pub(crate) fn silence_all<C: Code>(
-    heap: Global,
-    pieces: &[Vec<u8>],
-    whole: &[u8],
-) -> anyhow::Result<Survival>
-    ensures { Bytes 24 whole.now → Spread C.Code.meaning whole.now pieces.now → IfOk result (λ s. s.survived ≡ s.choices) }
-{
-    let mut all = Survival {
-        choices: 0,
-        survived: 0,
-        rebuilt: [0; 24],
-    };
-    for silent in 0..1u32 << (C::nodes() % 32) {
-        if silent.count_ones() as usize == C::silent() {
-            all = all.noted(rebuild::<C>(heap, pieces, silent)?, whole);
-        }
-    }
-    Ok(all)
 }
