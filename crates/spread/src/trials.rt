@@ -24,7 +24,7 @@ pub(crate) struct Nodes<C: Code> {
 }
 
 /// What came of silencing every set of as many nodes as a code bears.
-#[derive(Clone, Copy)]
+#[derive(Clone, Copy, Default)]
 pub(crate) struct Survival {
     /// how many such sets there are
     pub choices: u32,
@@ -44,6 +44,7 @@ fn piece_of<C: Code>(heap: Global, whole: &[u8; 24], number: u8) -> anyhow::Resu
 }
 
 // The pieces of a record, the one of node i at i.
+#[tactic(auto, using(crate::proofs::Spreads::next_node))]
 fn pieces_of<C: Code>(heap: Global, whole: &[u8; 24]) -> anyhow::Result<Vec<Vec<u8>>>
     ensures { IfOk result (λ v. Spread C.Code.meaning whole.now v.items) }
 {
@@ -104,7 +105,7 @@ impl<C: Code> Nodes<C> {
     pub(crate) fn silence_all(&self) -> anyhow::Result<Survival>
         ensures { IfOk result (λ s. s.survived ≡ s.choices) }
     {
-        let mut all = Survival::new();
+        let mut all = Survival::default();
         for silent in 0..1u32 << C::nodes() {
             if silent.count_ones() as usize == C::silent() {
                 all = all.noted(self.rebuild(silent)?, &self.whole);
@@ -115,16 +116,6 @@ impl<C: Code> Nodes<C> {
 }
 
 impl Survival {
-    fn new() -> Survival
-        ensures { result.survived ≡ result.choices }
-    {
-        Survival {
-            choices: 0,
-            survived: 0,
-            rebuilt: None,
-        }
-    }
-
     // One choice more, and what it gave back.
     fn noted(self, rebuilt: [u8; 24], whole: &[u8; 24]) -> Survival
         ensures { rebuilt ≡ whole.now → self.survived ≡ self.choices → result.survived ≡ result.choices }
