@@ -32,14 +32,14 @@ impl<T: Copy + Default, const MAX: usize> Pieces<T, MAX> {
     pub(crate) fn has_room<C: Code>(&self) -> bool
         ensures { result ≡ nat_lt self.now.count C.Code.meaning.k }
     {
-        usize::from(self.count) < C::needed()
+        usize::from(self.count) < C::K
     }
 
     // How many there are.
     pub(crate) fn used<C: Code>(&self) -> usize
         ensures { result ≡ min self.now.count C.Code.meaning.k }
     {
-        C::needed().min(usize::from(self.count))
+        C::K.min(usize::from(self.count))
     }
 
     // The tags, in the order of the pieces.

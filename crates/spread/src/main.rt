@@ -44,17 +44,14 @@ struct Fields<'a>(&'a Record);
 
 impl fmt::Display for Fields<'_> {
     fn fmt<W: fmt::Write>(&self, f: &mut fmt::Formatter<W>) -> fmt::Result {
-        let record = self.0;
-        let letter = record.unit.letter();
-        write!(
-            f,
-            "{}\t{letter}\t{}\t",
-            record.parameter, record.exponent.value
-        )?;
-        for b in record.name.bytes.trim_ascii_end() {
-            write!(f, "{}", char::from(*b))?;
-        }
-        write!(f, "\t{}", record.number.value)
+        let Record {
+            parameter,
+            unit,
+            exponent,
+            name,
+            number,
+        } = self.0;
+        write!(f, "{parameter}\t{unit}\t{exponent}\t{name}\t{number}")
     }
 }
 
@@ -81,7 +78,7 @@ fn show_survival<C: Named>(rt: &impl Print, all: Survival) -> anyhow::Result<()>
     print!(rt;
         "{} with {} silent: {survived} of {choices} choices give back\t",
         C::NAME,
-        C::silent()
+        C::F
     )?;
     match rebuilt.and_then(|bytes| Record::from_bytes(&bytes).ok()) {
         Some(record) => println!(rt; "{}", Fields(&record))?,

@@ -49,7 +49,7 @@ fn pieces_of<C: Code>(heap: Global, whole: &[u8; 24]) -> anyhow::Result<Vec<Vec<
     ensures { IfOk result (λ v. Spread C.Code.meaning whole.now v.items) }
 {
     let mut pieces = Vec::new(heap);
-    for node in 0..C::nodes() {
+    for node in 0..C::N {
         pieces.push(piece_of::<C>(heap, whole, node as u8)?)?;
     }
     Ok(pieces)
@@ -80,10 +80,10 @@ impl<C: Code> Nodes<C> {
     fn chosen(&self, silent: u32) -> Result<Vec<Piece<'_>>, AllocError>
         ensures { IfOk result (λ v. Picked C.Code.meaning self.now.pieces.items v.items) }
     {
-        (0..C::nodes() as u8)
+        (0..C::N as u8)
             .zip(&self.pieces)
             .filter(|(number, _)| silent >> (number % 32) & 1 == 0)
-            .take(C::needed())
+            .take(C::K)
             .map(|(number, piece)| Piece {
                 number,
                 bytes: piece.as_slice(),
@@ -106,8 +106,8 @@ impl<C: Code> Nodes<C> {
         ensures { IfOk result (λ s. s.survived ≡ s.choices) }
     {
         let mut all = Survival::default();
-        for silent in 0..1u32 << C::nodes() {
-            if silent.count_ones() as usize == C::silent() {
+        for silent in 0..1u32 << C::N {
+            if silent.count_ones() as usize == C::F {
                 all = all.noted(self.rebuild(silent)?, &self.whole);
             }
         }

@@ -36,6 +36,6 @@ returns g c =
     (YieldsList-at c.filter.ensures.source (YieldsList-from_zip (YieldsList-from_range 0 m.n m.n (search rules) (omega arith)) (YieldsList-from_slice pieces (search rules))))
     c.filter.ensures.closure
     (λ x b q k. search (rules, tests))))
-    (c.take.ensures.count ∙ c.needed.ensures)))
+    (c.take.ensures.count ∙ c.K.ensures ∙ g.met.C.Code.k_is)))
     c.map.ensures.closure
     (λ x r q k. search rules)))
