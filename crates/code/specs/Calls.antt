@@ -1,5 +1,5 @@
 -- The calls of a code: which are refused, and what the others write.
-use Rattle.std.specs.Prelude.{ℕ, ◌*◌, Bool, cond, ◌&&◌, List, map, length, take, drop, Some, None, Ok, Err, Option, Result, ◌==◌, nat_eq, nat_lt}
+use Rattle.std.specs.Prelude.{ℕ, ◌*◌, Bool, cond, ◌&&◌, List, map, length, take, drop, codes, Some, None, Ok, Err, Option, Result, ◌==◌, nat_eq, nat_lt}
 use Rattle.std.specs.List.{list_all, range_with_len}
 use Rattle.code.specs.declared.calls.CodeError.{CodeError}
 use Rattle.code.specs.declared.calls.CodeError.TheVariants.{Number, Size, Order}
@@ -11,6 +11,12 @@ abbrev pub refusal : CodeError → ℕ
 refusal Number = 20
 refusal Size = 21
 refusal Order = 22
+
+-- What each refusal says.
+abbrev pub sentence : CodeError → List ℕ
+sentence Number = codes "no such piece number"
+sentence Size = codes "a wrong size or count"
+sentence Order = codes "the piece numbers do not rise"
 
 -- The number by which a call was refused, if it was.
 abbrev pub refused : Result (Unit {0}) CodeError → Option ℕ

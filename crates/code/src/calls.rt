@@ -1,9 +1,11 @@
 //! What the calls of every code share: their refusals, and the pieces that a caller hands over.
-ghost use Rattle.std.specs.Prelude.{◌≡◌, ◌*◌, ◌≤◌, true, length, take, ◌==◌, nat_lt};
+ghost use Rattle.std.specs.Prelude.{◌≡◌, Some, ◌*◌, ◌≤◌, true, length, take, ◌==◌, nat_lt};
 ghost use Rattle.code.specs.Meaning.{all_below, rising, AllBytes};
-ghost use Rattle.code.specs.Calls.{refusal, number_of, bytes_of, numbers_of, contents_of, all_long, fitting, cut};
+ghost use Rattle.code.specs.Calls.{refusal, sentence, number_of, bytes_of, numbers_of, contents_of, all_long, fitting, cut};
 
 use std::array;
+use std::error::Error;
+use std::fmt;
 
 /// Why a call is refused.
 #[derive(Clone, Copy, PartialEq, Eq, Debug)]
@@ -24,6 +26,21 @@ impl CodeError {
         self as u8
     }
 }
+
+/// What was refused, in a few words.
+impl fmt::Display for CodeError {
+    ghost output = { λ e. Some (sentence e) };
+
+    fn fmt<W: fmt::Write>(&self, f: &mut fmt::Formatter<W>) -> fmt::Result {
+        f.write_str(match self {
+            CodeError::Number => "no such piece number",
+            CodeError::Size => "a wrong size or count",
+            CodeError::Order => "the piece numbers do not rise",
+        })
+    }
+}
+
+impl Error for CodeError {}
 
 /// A piece as a caller holds it.
 #[derive(Clone, Copy)]
