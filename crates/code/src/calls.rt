@@ -3,9 +3,8 @@ ghost use Rattle.std.specs.Prelude.{◌≡◌, Some, ◌*◌, ◌≤◌, true, l
 ghost use Rattle.code.specs.Meaning.{all_below, rising, AllBytes};
 ghost use Rattle.code.specs.Calls.{refusal, sentence, number_of, bytes_of, numbers_of, contents_of, all_long, fitting, cut};
 
-use std::array;
 use std::error::Error;
-use std::fmt;
+use std::{array, fmt};
 
 /// Why a call is refused.
 #[derive(Clone, Copy, PartialEq, Eq, Debug)]
@@ -50,13 +49,6 @@ pub struct Piece<'a> {
 }
 
 impl Piece<'_> {
-    // Whether a code with n nodes has the piece's number.
-    fn is_below(&self, n: usize) -> bool
-        ensures { result ≡ nat_lt (number_of self.now) n }
-    {
-        usize::from(self.number) < n
-    }
-
     // Whether the piece has w bytes.
     fn is_long(&self, w: usize) -> bool
         ensures { result ≡ (length (bytes_of self.now) == w) }

@@ -79,7 +79,8 @@ impl<M: Factors> Code for RowCode<M> {
     }
 
     fn decode(numbers: [u8; 8], parts: [u8; 24]) -> [u8; 24] {
-        let solution = M::solution([numbers[0], numbers[1], numbers[2], numbers[3]]);
+        let [a, b, c, d, ..] = numbers;
+        let solution = M::solution([a, b, c, d]);
         Rows::of(parts).solved(solution).flat()
     }
 }
