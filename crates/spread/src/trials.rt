@@ -93,7 +93,8 @@ impl<C: Code> Nodes<C> {
 
     // What k nodes that are not silent give back.
     fn rebuild(&self, silent: u32) -> anyhow::Result<[u8; 24]>
-        ensures { (x : List ℕ) → Bytes 24 x → Spread C.Code.meaning x self.now.pieces.items → IfOk result (λ y. y ≡ x) }
+        ensures any { (x : List ℕ) → Bytes 24 x → Spread C.Code.meaning x self.now.pieces.items → IfOk result (λ y. y ≡ x) }
+        ensures own { IfOk result (λ y. y ≡ self.now.whole) }
     {
         let picked = self.chosen(silent)?;
         let mut whole = [0; 24];
