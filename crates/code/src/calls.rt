@@ -110,6 +110,7 @@ pub(crate) fn gather_bytes(pieces: &[Piece<'_>], w: usize, all: &mut [u8])
     ensures parts { cut (length pieces.now) w all.new ≡ contents_of pieces.now }
     ensures bytes { AllBytes w (contents_of pieces.now) }
 {
+    // Not by `chunks_exact_mut`: once its borrow is over, a proof knows the length and no element.
     for (i, piece) in pieces.iter().enumerate() {
         all[i * w..i * w + w].copy_from_slice(piece.bytes);
     }

@@ -101,6 +101,7 @@ fn square(a: u8) -> u8
 pub fn inverse(a: u8) -> u8
     ensures { result ≡ inverse a }
 {
+    // A fold would carry both and give back one of them.
     let mut power = 1;
     let mut root = a;
     for _ in 0..7u8 {

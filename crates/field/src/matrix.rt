@@ -44,6 +44,7 @@ fn minor(m: [[u8; 4]; 4], r: usize, c: usize) -> u8
     det3([without(p, c), without(q, c), without(s, c)])
 }
 
+// Four terms, and below four rows, written out: behind a closure that makes them the check no longer knows what each is.
 fn det(m: [[u8; 4]; 4]) -> u8
     ensures { result ≡ det m }
 {

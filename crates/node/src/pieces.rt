@@ -8,6 +8,7 @@ use code::Code;
 
 /// At most k pieces of w bytes for a code's k and w, each with a tag: the stamp that it stands under, or its node's number.
 /// The 24 bytes are cut into k places of w bytes; the first `count` places are in use.
+/// An `ArrayVec` would count by itself, but it is not `Copy`, and a Look copies a whole node.
 #[derive(Clone, Copy)]
 pub struct Pieces<T, const MAX: usize> {
     count: u8,

@@ -43,6 +43,7 @@ impl Pieces<Stamp, 6> {
     pub(crate) fn cleared<C: Code>(&self, floor: Stamp) -> Shelf
         ensures { shelf_of C.Code.meaning result ≡ cleared (stamp_of floor) (shelf_of C.Code.meaning self.now) }
     {
+        // By places: a `chunks_exact(w)` beside the tags says less of each piece than `PieceOf` does.
         let mut rest = Shelf::empty();
         for (j, stamp) in self.tags::<C>().iter().enumerate() {
             rest.keep::<C>(*stamp, PieceOf::at(&self.bytes, j), floor);

@@ -35,6 +35,7 @@ pub trait Factors {
     fn solution(numbers: [u8; 4]) -> [[u8; 4]; 4]
         ensures { Chosen 4 (length matrix) numbers → T (inverses (chosen_rows matrix numbers) result) }
     {
+        // Written out: a closure in `numbers.map` does not say what `factors` promised.
         inverted([
             Self::factors(numbers[0]),
             Self::factors(numbers[1]),

@@ -14,6 +14,7 @@ pub struct Row {
 }
 
 /// A record, or the four pieces that it is joined from.
+/// Four fields and no array: over an array an encoder's proof needs an answer of ours, at which a wrong factor would be refused.
 #[derive(Clone, Copy)]
 pub struct Rows {
     pub first: Row,

@@ -17,6 +17,7 @@ impl Record {
         ensures rewrites { IfOk result (λ x. layout x ≡ bytes.now) }
         ensures rereads { Rereads bytes.now result }
     {
+        // By cases: behind `map_err` and `?` the check does not see by itself which refusal is given.
         match bytes.try_into() {
             Ok(bytes) => Record::read(bytes),
             Err(_) => Err(RecordError::Length),
@@ -33,6 +34,7 @@ impl Record {
         let unit = Unit::try_from(unit)?;
         let exponent = i8::from_be_bytes([exponent]);
         let number = i32::from_be_bytes([n0, n1, n2, n3]);
+        // The name is no part of the pattern: `name @ ..` is not covered there.
         Record::of_parts(parameter, unit, i32::from(exponent), &bytes[4..20], number)
     }
 

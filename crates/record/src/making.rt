@@ -9,6 +9,8 @@ use crate::fields::{Exponent, Name, Number, Record};
 use crate::refusals::RecordError;
 use crate::units::Unit;
 
+// Exponent and number are tested each in its own words: one text for both would take the range, the refusal and the
+// narrower integer as parameters, and say it no shorter.
 impl Exponent {
     /// The exponent of this value, or a refusal.
     pub fn new(value: i32) -> Result<Exponent, RecordError>
@@ -78,6 +80,7 @@ impl Record {
     }
 
     // The parts after the unit, in the order in which they are refused.
+    // They are five parameters and no struct, which would be built twice and taken apart once, for one call in a line each.
     pub(crate) fn of_parts(
         parameter: u16,
         unit: Unit,

@@ -48,6 +48,7 @@ fn piece_of<C: Code>(heap: Global, whole: &[u8; 24], number: u8) -> anyhow::Resu
 fn pieces_of<C: Code>(heap: Global, whole: &[u8; 24]) -> anyhow::Result<Vec<Vec<u8>>>
     ensures { IfOk result (λ v. Spread C.Code.meaning whole.now v.items) }
 {
+    // A loop, since each step may fail: a `try_collect` would be no plainer.
     let mut pieces = Vec::new(heap);
     for node in 0..C::N {
         pieces.push(piece_of::<C>(heap, whole, node as u8)?)?;
@@ -106,6 +107,7 @@ impl<C: Code> Nodes<C> {
     pub(crate) fn silence_all(&self) -> anyhow::Result<Survival>
         ensures { IfOk result (λ s. s.survived ≡ s.choices) }
     {
+        // The test stands in the loop: a `filter` of the range by a closure is not covered by the check here.
         let mut all = Survival::default();
         for silent in 0..1u32 << C::N {
             if silent.count_ones() as usize == C::F {
