@@ -1,10 +1,8 @@
 -- Arrays that a closure makes, place by place.
-use Rattle.std.proofs.Common.{◌≡◌, ℕ, suc, zero, ◌+◌, ◌<◌, ◌≤◌, List, get_or, map, subst, ◌∙◌, ⊎_elim, arith}
+use Rattle.std.proofs.Common.{◌≡◌, ℕ, suc, zero, ◌+◌, ◌<◌, ◌≤◌, List, get_or, subst, ◌∙◌, ⊎_elim, arith}
 use denote.Param.Members.{Mut, Called}
 use Rattle.std.specs.Array.{IsFromFnResult, IsFromFnResultFrom}
-use Rattle.std.specs.List.{range_with_len}
 use Rattle.std.proofs.lemmas.Bool.{cases_lt}
-use Rattle.std.proofs.lemmas.List.FromFn.{fill_by_all}
 
 -- each call at i leaves the closure as it was and gives e i
 module _ {F B : Type 0} (g : Mut F (ℕ × Unit {0}) B) (f : F) (e : ℕ → B) (computes : (i : ℕ) (y : B) (q : F) → Called g f (i, tt) y q → (q ≡ f) × (y ≡ e i)) where
@@ -22,7 +20,3 @@ module _ {F B : Type 0} (g : Mut F (ℕ × Unit {0}) B) (f : F) (e : ℕ → B) 
   -- what stands at each place
   pub made_at : (ys : List B) (n : ℕ) → IsFromFnResult g f ys n → (j : ℕ) (d : B) → j < n → get_or ys j d ≡ e j
   made_at ys n m j d h = made_from ys 0 n m.each j d (omega arith) (omega arith)
-
-  -- the whole array
-  pub made_by : (ys : List B) (n : ℕ) → IsFromFnResult g f ys n → B → ys ≡ map e (range_with_len 0 n)
-  made_by ys n m d = fill_by_all e ys n d m.long (λ j h. made_at ys n m j d h)

@@ -1,5 +1,5 @@
 -- What is known of a join once its tests have passed: n, k and w are what the code's functions returned.
-use Rattle.std.proofs.Common.{◌≡◌, ℕ, ◌*◌, ◌≤◌, true, T, eqb, List, length, take, None, sym, ap, ◌∙◌, subst, ap₂, arith}
+use Rattle.std.proofs.Common.{◌≡◌, ℕ, true, T, eqb, List, length, take, None, sym, ap, ◌∙◌, subst, ap₂}
 use lib.ListN.{length-map}
 use Rattle.std.proofs.lemmas.Bool.{and_parts, eqb-true}
 use Rattle.code.specs.declared.calls.CodeError.TheVariants.{Number, Size, Order}
@@ -11,20 +11,11 @@ module _ (m : Meaning) (law : Lawful m) (xs : List Piece) (room k w : ℕ) (k_is
   sizes : (eqb (length (contents_of xs)) k ≡ true) × (all_long w (contents_of xs) ≡ true)
   sizes = and_parts _ _ (and_parts (eqb room 24) _ (sym fits)).1
 
-  pub all_sized : all_long w (contents_of xs) ≡ true
-  all_sized = sizes.1
-
   content_count : length (contents_of xs) ≡ m.k
   content_count = eqb-true (length (contents_of xs)) k sizes.0 ∙ k_is
 
   count : length xs ≡ m.k
   count = sym (length-map xs bytes_of) ∙ content_count
-
-  pub few_pieces : length xs ≤ 8
-  few_pieces = let e = count in let few = law.few in let nodes = law.nodes in omega arith
-
-  pub all_places : length xs * w ≡ 24
-  all_places = ap₂ (λ a b. a * b) count w_is ∙ law.sizes
 
   module _ (n : ℕ) (n_is : n ≡ m.n) (known : true ≡ all_below n (numbers_of xs)) (order : true ≡ rising (numbers_of xs)) where
     below : true ≡ all_below m.n (numbers_of xs)

@@ -1,6 +1,5 @@
 -- What follows from a code's laws.
-use Rattle.std.proofs.Common.{◌≡◌, ℕ, ◌/◌, ◌≤◌, Bool, true, false, T, ltb, List, [], ◌∷◌, map, sym, refl, ◌∙◌, mul-le-mul_right, arith}
-use native.Mathlib.Nat.{div-eq_of_eq-mul_right}
+use Rattle.std.proofs.Common.{◌≡◌, ℕ, ◌≤◌, Bool, true, false, T, ltb, List, [], ◌∷◌, map, sym, refl, ◌∙◌, mul-le-mul_right, arith}
 use lib.ListN.{length-map}
 use Rattle.std.proofs.lemmas.Bool.{and_parts, ltb-true}
 use Rattle.code.specs.Bytes.{Bytes}
@@ -14,9 +13,6 @@ module _ (m : Meaning) (law : Lawful m) where
   -- a piece is no longer than a record
   pub width_fits : m.w ≤ 24
   width_fits = let l = mul-le-mul_right m.w law.needed in let e = law.sizes in omega arith
-
-  pub width_is : 24 / m.k ≡ m.w
-  width_is = div-eq_of_eq-mul_right law.needed (sym law.sizes)
 
   -- the pieces that 24 bytes have at rising numbers are enough
   own_bytes : (x : List ℕ) (is : List ℕ) → Bytes 24 x → all_below m.n is ≡ true → AllBytes m.w (map (m.piece x) is)

@@ -68,9 +68,6 @@ upd3_all P f g h i x y z a b j =
           (subst (λ u. P j (f j) u (upd h i z j)) (sym (off_at g i j y n)) (subst (P j (f j) (g j)) (sym (off_at h i j z n)) (b j n)))
     ]
 
-no_end : (s : Stamp) (e : ℕ) {A : Type 0} → Ended nothing s e → A
-no_end s e h = absurd (let z : ◌≡◌ {A = ℕ} 0 1 = let y = h.1.1 in cc in omega arith)
-
 no_gave : (x : Rebuilt) (e : ℕ) {A : Type 0} → Gave nothing x e → A
 no_gave x e h = absurd (let z : ◌≡◌ {A = ℕ} 0 1 = let y = h.1 in cc in omega arith)
 

@@ -6,10 +6,6 @@ use Rattle.register.specs.Nodes.{Node}
 use Rattle.register.specs.Reading.{Rebuilt, later, under, record_under, highest, list_count}
 use Rattle.register.proofs.Order.{lt_lt, le_le}
 
--- nothing before it changes nothing
-pub later_none_left : (u : Option Rebuilt) → later none u ≡ u
-later_none_left u = refl
-
 -- nothing after it changes nothing
 pub later_none_right : (u : Option Rebuilt) → later u none ≡ u
 later_none_right none = refl

@@ -41,9 +41,6 @@ le_itself s = grind (arith, nat_tests)
 pub clash : (s t : Stamp) {A : Type 0} → Earlier s t → NoLater t s → A
 clash s t h k = absurd (let z : ◌≡◌ {A = ℕ} 0 1 = cc in omega arith)
 
-pub either_way : (s t : Stamp) → Earlier s t ⊎ NoLater t s
-either_way s t = cases_Bool (below s t)
-
 pub counted : (s t : Stamp) → s.count < t.count → Earlier s t
 unfolding below
 counted s t h = grind (arith, nat_tests)

@@ -95,9 +95,6 @@ settle_facts C B node m p d i s (busy l (write_store v t G got)) h e a k = tt
 settle_facts C B node m p d i s (busy l (write_settle v t got)) h e a k = rw (h.asked i s e) at k
 settle_facts C B node m p d i s (busy l (read_look j u got ans)) h e a k = tt
 
-no_looked : (y : Answer) (b : Node) → y ≡ stored → answered y ≡ answered (looked b) → ⊥
-no_looked y b h e = let z : ◌≡◌ {A = ℕ} 0 1 = cc in omega arith
-
 module _ (C : Meaning) (σ : Segment) (H : History) (I : Inv C σ H) (c i : ℕ) (l : i < C.n) where
   -- one node grows
   all_grown : (a : Node) → Grown (σ.node i) a → (j : ℕ) → Grown (σ.node j) (upd σ.node i a j)

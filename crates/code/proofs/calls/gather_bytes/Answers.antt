@@ -20,11 +20,6 @@ copy_from_slice-requires c =
     part_room c.args.w c.loop-i.all c.loop-i.i (omega (arith, c.requires.count))
     ∙ sym (long_at c.args.w c.args.pieces.now c.loop-i.i c.loop-i-test.true c.requires.sizes)
 
-pub slice_bounds-copy_from_slice-end : goal.slice_bounds-copy_from_slice-end
-slice_bounds-copy_from_slice-end c =
-    let ends = part_ends c.args.w c.loop-i.i (length c.args.pieces.now) c.loop-i-test.true in
-    omega (arith, c.requires.count)
-
 pub loop-i-preserved : goal.loop-i-preserved
 loop-i-preserved c =
     let w = c.args.w in

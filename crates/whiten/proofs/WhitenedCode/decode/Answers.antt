@@ -1,15 +1,7 @@
-use Rattle.std.proofs.Common.{ℕ, ◌*◌, ◌≤◌, take, sym, ap, ◌∙◌, subst}
+use Rattle.std.proofs.Common.{◌*◌, take, sym, ap, ◌∙◌}
 use Rattle.code.specs.Calls.{cut}
-use Rattle.code.proofs.Laws.{width_fits}
 use Rattle.whiten.specs.Whitening.{all_masked}
-use Rattle.whiten.specs.WhiteningLemmas.{width_least}
 use Rattle.whiten.proofs.WhitenedCode.decode.Goals as goal
-
-pub all_masked-requires-clause-low : goal.all_masked-requires-clause-low
-all_masked-requires-clause-low g c = subst (λ (w : ℕ). 3 ≤ w) (sym c.width.ensures) (width_least g.C.Code.meaning g.met.C.Code.lawful)
-
-pub all_masked-requires-clause-high : goal.all_masked-requires-clause-high
-all_masked-requires-clause-high g c = subst (λ (w : ℕ). w ≤ 24) (sym c.width.ensures) (width_fits g.C.Code.meaning g.met.C.Code.lawful)
 
 pub returns : goal.returns
 returns g c h =

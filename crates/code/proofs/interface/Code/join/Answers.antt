@@ -2,27 +2,8 @@ use Rattle.std.proofs.Common.{◌≡◌, length, sym, ap, ◌∙◌, subst}
 use Rattle.code.specs.Meaning.{Only}
 use Rattle.code.specs.Calls.{numbers_of, contents_of, written}
 use Rattle.code.proofs.Laws.{joined_only}
-use Rattle.code.proofs.Joins.{all_sized, few_pieces, all_places, joinable, carried_out, decoded}
+use Rattle.code.proofs.Joins.{joinable, carried_out, decoded}
 use Rattle.code.proofs.interface.Code.join.Goals as goal
-
-pub gather_numbers-requires : goal.gather_numbers-requires
-gather_numbers-requires g c =
-    few_pieces g.Self.Code.meaning g.met.Self.Code.lawful c.args.pieces.now (length c.args.place.now)
-    c.K.result c.width-w.result (c.K.ensures ∙ g.met.Self.Code.k_is) c.width-w.ensures c.if-not-fits.ensures
-
-pub gather_bytes-requires : goal.gather_bytes-requires
-gather_bytes-requires g c =
-    let m = g.Self.Code.meaning in
-    let law = g.met.Self.Code.lawful in
-    let xs = c.args.pieces.now in
-    let room = length c.args.place.now in
-    let k = c.K.result in
-    let k_is = c.K.ensures ∙ g.met.Self.Code.k_is in
-    let w = c.width-w.result in
-    record {
-      count = all_places m law xs room k w k_is c.width-w.ensures c.if-not-fits.ensures;
-      sizes = all_sized m law xs room k w k_is c.width-w.ensures c.if-not-fits.ensures;
-    }
 
 pub returns : goal.returns
 returns g c =
