@@ -5,7 +5,7 @@ ghost use Rattle.code.specs.Calls.{refused, numbers_of, contents_of, cut, make_r
 
 use crate::calls::{CodeError, Piece, fits, gather_bytes, gather_numbers, in_order, known};
 
-// How many bytes each of k equal pieces of a record has.
+// How many bytes each of k equal pieces of a record has. A function of its own, so that an edit of it loses a fact here.
 fn piece_size(k: usize) -> usize
     requires { 1 ≤ k }
     ensures { result ≡ 24 / k }
@@ -40,7 +40,7 @@ pub trait Code {
     }
 
     /// The piece of a record at a number that the code has. The first w bytes count.
-    /// Whole arrays go in and out, so that a code over another one is a loop of fixed length.
+    /// Whole arrays go in and out, so that a code over another one makes an array of fixed length.
     fn encode(whole: [u8; 24], number: u8) -> [u8; 24]
         ensures { number < meaning.n → take meaning.w result ≡ meaning.piece whole number };
 

@@ -7,7 +7,7 @@ ghost use Rattle.field.specs.Laws.{FieldLaws};
 
 pub mod matrix;
 
-pub use matrix::inverted;
+pub use matrix::{Matrix, inverted};
 use std::array;
 
 // What x^8 is, modulo x^8 + x^4 + x^3 + x^2 + 1.

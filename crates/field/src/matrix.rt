@@ -6,6 +6,9 @@ ghost use Rattle.field.specs.Matrix.{entry, skip, det2, det3, minor, det, invert
 use crate::{inverse, product};
 use std::array;
 
+/// Four rows of four factors.
+pub type Matrix = [[u8; 4]; 4];
+
 // What is left of four once the one at r is left out.
 fn without<T: Copy>(four: [T; 4], r: usize) -> [T; 3]
     ensures { (d : T) → result ≡ slice_index_or four (skip r 0) d ∷ slice_index_or four (skip r 1) d ∷ slice_index_or four (skip r 2) d ∷ [] }
@@ -37,7 +40,7 @@ fn det3(t: [[u8; 3]; 3]) -> u8
 }
 
 // The determinant of what is left without row r and column c.
-fn minor(m: [[u8; 4]; 4], r: usize, c: usize) -> u8
+fn minor(m: Matrix, r: usize, c: usize) -> u8
     ensures { result ≡ minor m r c }
 {
     let [p, q, s] = without(m, r);
@@ -45,7 +48,7 @@ fn minor(m: [[u8; 4]; 4], r: usize, c: usize) -> u8
 }
 
 // Four terms, and below four rows, written out: behind a closure that makes them the check no longer knows what each is.
-fn det(m: [[u8; 4]; 4]) -> u8
+fn det(m: Matrix) -> u8
     ensures { result ≡ det m }
 {
     product(m[0][0], minor(m, 0, 0))
@@ -55,7 +58,7 @@ fn det(m: [[u8; 4]; 4]) -> u8
 }
 
 // Row r of the inverse, where scale is the inverse of the determinant.
-fn inverse_row(m: [[u8; 4]; 4], scale: u8, r: usize) -> [u8; 4]
+fn inverse_row(m: Matrix, scale: u8, r: usize) -> [u8; 4]
     ensures { result ≡ line (λ c. times (minor m c r) scale) }
 {
     array::from_fn(|c| product(minor(m, c, r), scale))
@@ -63,7 +66,7 @@ fn inverse_row(m: [[u8; 4]; 4], scale: u8, r: usize) -> [u8; 4]
 
 /// The inverse of a matrix that has one.
 #[tactic(auto, unfolding(crate::specs::Matrix::inverted))]
-pub fn inverted(m: [[u8; 4]; 4]) -> [[u8; 4]; 4]
+pub fn inverted(m: Matrix) -> Matrix
     ensures { result ≡ inverted m }
 {
     let scale = inverse(det(m));

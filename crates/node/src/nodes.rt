@@ -1,5 +1,5 @@
 //! Nodes: what one holds, what it does with a Store and a Settle, and what it shows at a Look.
-ghost use Rattle.std.specs.Prelude.{◌≡◌, ◌<◌, [], ◌∷◌, length, IfSome, slice_index_or};
+ghost use Rattle.std.specs.Prelude.{◌≡◌, ◌<◌, [], ◌∷◌, length, slice_index_or};
 ghost use Rattle.std.specs.Option.{option_map};
 ghost use Rattle.code.specs.Meaning.{Meaning};
 ghost use Rattle.register.specs.Stamps.{below, lowest};

@@ -1,5 +1,5 @@
 //! Pieces picked from nodes, to be joined.
-ghost use Rattle.std.specs.Prelude.{◌≡◌, ◌<◌, [], ◌∷◌, ◌++◌, length, take};
+ghost use Rattle.std.specs.Prelude.{◌≡◌, ◌<◌, [], ◌++◌, length, take};
 ghost use Rattle.code.specs.Meaning.{Chosen};
 ghost use Rattle.register.specs.Reading.{node_piece, with_piece, numbers as numbers_of, joined};
 ghost use Rattle.node.specs.Stamped.{stamp as stamp_of};
@@ -14,7 +14,7 @@ use code::Code;
 /// At most k pieces with the numbers of their nodes, in the order in which they were picked.
 pub type Parts = Pieces<u8, 8>;
 
-impl Pieces<u8, 8> {
+impl Parts {
     /// No pieces.
     pub fn none<C: Code>() -> Parts
         ensures { parts_of C.Code.meaning result ≡ [] }

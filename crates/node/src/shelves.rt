@@ -1,5 +1,5 @@
 //! The shelf of a node: pieces under their stamps.
-ghost use Rattle.std.specs.Prelude.{◌≡◌, ◌+◌, ◌<◌, ◌≤◌, [], ◌∷◌, ◌++◌, map, length, IfSome, position};
+ghost use Rattle.std.specs.Prelude.{◌≡◌, ◌+◌, ◌<◌, ◌≤◌, [], ◌∷◌, ◌++◌, map, IfSome, position};
 ghost use Rattle.std.specs.Option.{option_map};
 ghost use Rattle.register.specs.Stamps.{same_stamp};
 ghost use Rattle.register.specs.Nodes.{cleared};
@@ -16,7 +16,7 @@ use code::Code;
 /// At most k pieces under their stamps, in the order in which they came.
 pub type Shelf = Pieces<Stamp, 6>;
 
-impl Pieces<Stamp, 6> {
+impl Shelf {
     // Piece i of a record, behind the others.
     pub(crate) fn shelve<C: Code>(&mut self, i: u8, whole: Stamped)
         requires { self.old.count < C.Code.meaning.k }

@@ -1,8 +1,7 @@
 //! The spare of a node: room for one whole record or one piece, under a stamp.
-ghost use Rattle.std.specs.Prelude.{◌≡◌, ◌<◌, length, IfSome};
+ghost use Rattle.std.specs.Prelude.{◌≡◌, ◌<◌};
 ghost use Rattle.std.specs.Option.{option_map};
-ghost use Rattle.code.specs.Meaning.{Meaning};
-ghost use Rattle.register.specs.Nodes.{free, one_piece, cut, replace, spare_bytes};
+ghost use Rattle.register.specs.Nodes.{cut, replace, spare_bytes};
 ghost use Rattle.register.specs.Reading.{spare_piece, spare_record};
 ghost use Rattle.node.specs.Stamped.{stamp as stamp_of};
 ghost use Rattle.node.specs.Spared.{spare as spare_of, stamp_in};

@@ -8,6 +8,7 @@ ghost use Rattle.field.specs.Matrix.{inverted};
 ghost use Rattle.parity.specs.Solvable.{solvable};
 
 use crate::factors::{Factors, RowCode};
+use field::Matrix;
 
 // The factors of the rows in each piece.
 static FACTORS: [[u8; 4]; 6] = [
@@ -27,7 +28,7 @@ static TRIPLES: [usize; 6] = [0, 0, 0, 1, 4, 10];
 static QUADRUPLES: [usize; 6] = [0, 0, 0, 0, 1, 5];
 
 // The inverse of the factors of the four pieces of each rank, whose numbers stand beside it.
-static SOLUTIONS: [[[u8; 4]; 4]; 15] = [
+static SOLUTIONS: [Matrix; 15] = [
     [[1, 0, 0, 0], [0, 1, 0, 0], [0, 0, 1, 0], [0, 0, 0, 1]], // 0, 1, 2, 3
     [[1, 0, 0, 0], [0, 1, 0, 0], [0, 0, 1, 0], [1, 1, 1, 1]], // 0, 1, 2, 4
     [[1, 0, 0, 0], [0, 1, 0, 0], [1, 1, 1, 1], [0, 0, 1, 0]], // 0, 1, 3, 4
@@ -113,7 +114,7 @@ impl Choice {
     }
 
     // The inverse of the factors of its pieces.
-    fn solution(self) -> [[u8; 4]; 4]
+    fn solution(self) -> Matrix
         ensures { result ≡ slice_index_or solutions (rank_of self.numbers) [] }
     {
         SOLUTIONS[self.rank()]
@@ -142,7 +143,7 @@ impl Factors for DoubleParity {
         FACTORS.get(usize::from(number)).copied().unwrap_or([0; 4])
     }
 
-    fn solution(numbers: [u8; 4]) -> [[u8; 4]; 4] {
+    fn solution(numbers: [u8; 4]) -> Matrix {
         Choice::of(numbers).map_or([[0; 4]; 4], Choice::solution)
     }
 }

@@ -8,7 +8,7 @@ ghost use Rattle.parity.specs.Lawfully;
 
 use crate::rows::Rows;
 use code::Code;
-use field::inverted;
+use field::{Matrix, inverted};
 
 /// A matrix with a row of four factors for each node: its piece is the sum of a record's rows, each times its factor.
 ///
@@ -32,7 +32,7 @@ pub trait Factors {
 
     /// The matrix that makes rows of the pieces at four rising numbers.
     /// It is found here whenever it is asked for; an implementation may keep a table of them.
-    fn solution(numbers: [u8; 4]) -> [[u8; 4]; 4]
+    fn solution(numbers: [u8; 4]) -> Matrix
         ensures { Chosen 4 (length matrix) numbers → T (inverses (chosen_rows matrix numbers) result) }
     {
         // Written out: a closure in `numbers.map` does not say what `factors` promised.

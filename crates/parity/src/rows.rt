@@ -4,7 +4,7 @@ ghost use Rattle.std.specs.List.{flat_map};
 ghost use Rattle.field.specs.Polynomials.{byte};
 ghost use Rattle.parity.specs.Rows.{six, row_byte, rows_of, listed, flat, combination, combinations};
 
-use field::combined;
+use field::{Matrix, combined};
 use std::array;
 
 /// A quarter of a record.
@@ -110,7 +110,7 @@ impl Rows {
     }
 
     /// The four sums of the rows that a matrix has the factors of.
-    pub fn solved(self, matrix: [[u8; 4]; 4]) -> Rows
+    pub fn solved(self, matrix: Matrix) -> Rows
         ensures { listed result ≡ combinations matrix (listed self) }
     {
         Rows {

@@ -30,6 +30,7 @@ pub struct Number {
 }
 
 /// One parameter record. Its value is number × 10^exponent, in its unit.
+/// `==` compares all five parts; `same` compares what they mean.
 #[derive(Clone, Copy, PartialEq, Eq, Debug)]
 pub struct Record {
     pub parameter: u16,

@@ -17,11 +17,8 @@ impl Record {
         ensures rewrites { IfOk result (λ x. layout x ≡ bytes.now) }
         ensures rereads { Rereads bytes.now result }
     {
-        // By cases: behind `map_err` and `?` the check does not see by itself which refusal is given.
-        match bytes.try_into() {
-            Ok(bytes) => Record::read(bytes),
-            Err(_) => Err(RecordError::Length),
-        }
+        let bytes: [u8; 24] = bytes.try_into().map_err(|_| RecordError::Length)?;
+        Record::read(bytes)
     }
 
     // The record whose parts lie where the layout has them.

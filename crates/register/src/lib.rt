@@ -11,7 +11,7 @@ ghost use Rattle.register.specs.Example.{Worked, calls};
 
 use code::Code;
 
-// All but f of n nodes.
+// All but f of n nodes. A function of its own, so that an edit of it loses a fact here.
 fn all_but(f: usize, n: usize) -> usize
     requires { f ≤ n }
     ensures { result ≡ n - f }

@@ -18,15 +18,12 @@ fn digit(b: u8) -> Option<u8>
     }
 }
 
-// The byte of two hex digits, if they are.
+// The byte of two hex digits, if they are. A `Result`, since `try_map` takes one.
 fn byte(digits: [u8; 2]) -> Result<u8, ()>
     ensures { result_ok result ≡ byte_of (digit_of (slice_index digits 0)) (digit_of (slice_index digits 1)) }
 {
     let [high, low] = digits;
-    let (Some(high), Some(low)) = (digit(high), digit(low)) else {
-        return Err(());
-    };
-    Ok(high * 16 + low)
+    Ok(digit(high).ok_or(())? * 16 + digit(low).ok_or(())?)
 }
 
 /// The 24 bytes of 48 hex digits.

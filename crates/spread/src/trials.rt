@@ -83,6 +83,7 @@ impl<C: Code> Nodes<C> {
     {
         (0..C::N as u8)
             .zip(&self.pieces)
+            // The remainder is for the proof: a number is below n, which a closure does not know.
             .filter(|(number, _)| silent >> (number % 32) & 1 == 0)
             .take(C::K)
             .map(|(number, piece)| Piece {

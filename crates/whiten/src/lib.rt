@@ -3,7 +3,7 @@
 
 ghost use Rattle.std.specs.Prelude.{◌≡◌, ℕ, ◌*◌, ◌<◌, ◌≤◌, take, bit_xor};
 ghost use Rattle.code.specs.Calls.{cut};
-ghost use Rattle.whiten.specs.Whitening.{mask, masked, all_masked, whitened};
+ghost use Rattle.whiten.specs.Whitening.{mask, all_masked, whitened};
 ghost use Rattle.whiten.specs.WhiteningLemmas;
 
 use code::Code;

@@ -2,7 +2,7 @@ use Rattle.std.proofs.Common.{◌≡◌, ◌≤◌, take}
 use Rattle.register.specs.Nodes.{cleared}
 use Rattle.node.specs.Stamped.{stamp}
 use Rattle.node.specs.Shelved.{shelf}
-use Rattle.node.proofs.shelves.Pieces+Stamp+6.cleared.Given as goal
+use Rattle.node.proofs.shelves.Shelf.cleared.Given as goal
 
 abbrev pub invariant-loop-j : goal.invariant-loop-j
 invariant-loop-j g l =
