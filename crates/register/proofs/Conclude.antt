@@ -1,5 +1,5 @@
 -- What the nodes rebuild, and what answers give.
-use Rattle.std.proofs.Common.{◌≡◌, ℕ, ◌<◌, ◌≤◌, Bool, true, ◌&&◌, ◌⊎◌, Some as some, None as none, Option, sym, refl, ap, ◌∙◌, subst, inl, inr, arith}
+use Rattle.std.proofs.Common.{◌≡◌, ℕ, ◌<◌, ◌≤◌, Bool, true, ◌&&◌, ◌⊎◌, Some as some, sym, refl, ap, ◌∙◌, subst, inl, inr, arith}
 use Rattle.std.proofs.lemmas.Bool.{and_parts}
 use Rattle.code.specs.Meaning.{Meaning, Lawful}
 use Rattle.record.specs.Layout.{is_record}
@@ -9,11 +9,11 @@ use Rattle.register.specs.Nodes.{Bytes, Node}
 use Rattle.register.specs.Reading.{Rebuilt, rebuild, top_floor, stamps, node_piece}
 use Rattle.register.specs.Machine.{Segment}
 use Rattle.register.specs.History.{Write, Operation, nothing, a_write, a_read, History, stamp_of, bytes_of}
-use Rattle.register.specs.Promises.{Rebuilding, ARecord, JoinsRecords}
+use Rattle.register.specs.Promises.{Rebuilding, ARecord, JoinsRecords, WholeRecords, RecordsAt}
 use Rattle.register.proofs.Order.{reaches, not_below, le_le, lowest_is}
 use Rattle.register.proofs.Counting.{meet, one}
 use Rattle.register.proofs.NodeLaws.{has}
-use Rattle.register.proofs.Readable.{Under, none_some, joins, record_is, best_is, top_over, top_is, pieces_length, readable}
+use Rattle.register.proofs.Readable.{none_some, some_of, Under, joins, record_is, best_is, top_over, top_is, pieces_length, readable}
 use Rattle.register.proofs.Items.{piece_found, whole_found, stamps_every, in_every}
 use Rattle.register.proofs.Invariant.{Ops, AFloor, PieceOf, WholeOf, NodeOk, Inv}
 
@@ -43,10 +43,6 @@ top_floor_is S Q a n h f =
       | inr y ↦ y
     ]
 
-some_of : {A : Type 0} (o : Option A) → has o ≡ true → (x : A) × (o ≡ some x)
-some_of none e = absurd (let z : ◌≡◌ {A = ℕ} 0 1 = cc in omega arith)
-some_of (some x) e = (x, refl)
-
 -- the stamps of all writes differ
 abbrev pub Differ : Ops → Type 0
 Differ B = (p q : ℕ) (s : Stamp) → stamp_of (B p) ≡ some s → stamp_of (B q) ≡ some s → p ≡ q
@@ -74,8 +70,8 @@ module _ (C : Meaning) (L : Lawful C) where
     }
 
     -- k pieces under one stamp join to a record
-    pub only_records : (Q : ℕ → Bool) (a : ℕ → Node) → ((j : ℕ) → j < C.n → Q j ≡ true → NodeOk C B node j (a j)) → JoinsRecords C Q a
-    only_records Q a ok t h =
+    joins_records : (Q : ℕ → Bool) (a : ℕ → Node) → ((j : ℕ) → j < C.n → Q j ≡ true → NodeOk C B node j (a j)) → JoinsRecords C Q a
+    joins_records Q a ok t h =
         let l = pieces_length Q a t 0 C.n in
         let n = L.needed in
         let j = one (λ j. Q j && has (node_piece t (a j))) 0 C.n (omega arith) in
@@ -84,6 +80,16 @@ module _ (C : Meaning) (L : Lawful C) where
         let f = piece_found (PieceOf C B j.0) (WholeOf C B) t (a j.0) x.0 (ok j.0 (omega arith) b.0).items x.1 in
         let g = good_bytes B good f.0 t f.1 in
         ap is_record (joins C Q a (bytes_of (B f.0)) t L (λ i u v. under_of f.0 t i (a i) f.1 (ok i u v)) g.sized h) ∙ g.lies
+
+    -- whole records are records
+    whole_records : (Q : ℕ → Bool) (a : ℕ → Node) → ((j : ℕ) → j < C.n → Q j ≡ true → NodeOk C B node j (a j)) → WholeRecords C Q a
+    whole_records Q a ok j l q t r e =
+        let f = whole_found (PieceOf C B j) (WholeOf C B) t (a j).spare r (ok j l q).items.spared e in
+        ap is_record f.2 ∙ (good_bytes B good f.0 t f.1).lies
+
+    -- nothing else is met
+    pub only_records : (Q : ℕ → Bool) (a : ℕ → Node) → ((j : ℕ) → j < C.n → Q j ≡ true → NodeOk C B node j (a j)) → RecordsAt C Q a
+    only_records Q a ok = record { joins = joins_records Q a ok; wholes = whole_records Q a ok }
 
     pub record Given (Q : ℕ → Bool) (a : ℕ → Node) (x : Rebuilt) : Type 0 where
       pub whose : ℕ
@@ -120,7 +126,8 @@ module _ (C : Meaning) (L : Lawful C) where
       let fl = top_floor_is (AFloor C B a) Q a C.n some_one (λ j u v. (I.nodes j u).base) in
       let ok = good_bytes B I.records fl.0 t fl.1 in
       let r = readable C L Q a (bytes_of (B fl.0)) quorum fl.2
-      (λ j u v. under_of B a I.order.apart I.records fl.0 t j (a j) fl.1 (I.nodes j u)) ok.sized ok.lies in
+      (λ j u v. under_of B a I.order.apart I.records fl.0 t j (a j) fl.1 (I.nodes j u))
+      (whole_records B a I.order.apart I.records Q a (λ j u v. I.nodes j u)) ok.sized ok.lies in
       let x = some_of (rebuild C Q a) r in
       let g = rebuilt_from B a I.order.apart I.records Q a (λ j u v. I.nodes j u) x.0 x.1 in
       record {

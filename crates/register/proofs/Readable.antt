@@ -10,10 +10,20 @@ use Rattle.record.specs.Layout.{is_record}
 use Rattle.register.specs.Tables.{bit, tally}
 use Rattle.register.specs.Stamps.{Stamp, below, same_stamp, higher, lowest, NoLater}
 use Rattle.register.specs.Nodes.{Bytes, Item, Spare, free, one_piece, one_record, Node}
-use Rattle.register.specs.Reading.{or_else, given, only_if, Numbered, numbers, contents, joined, with_piece, shelf_piece, spare_piece, spare_record, node_piece, pieces, whole, shelf_stamps, spare_stamps, node_stamps, stamps, top_floor, record_under, Rebuilt, later, under, highest, rebuild}
+use Rattle.register.specs.Reading.{or_else, given, only_if, if_record, Numbered, numbers, contents, joined, with_piece, shelf_piece, spare_piece, spare_record, node_piece, pieces, whole, shelf_stamps, spare_stamps, node_stamps, stamps, top_floor, record_under, Rebuilt, later, under, highest, rebuild}
+use Rattle.register.specs.Promises.{WholeRecords}
 use Rattle.register.proofs.Order.{not_below, le_le, lt_to_le, le_itself, same_is, same_itself}
 use Rattle.register.proofs.Counting.{meet, one, either}
 use Rattle.register.proofs.NodeLaws.{has, record_from, keeps}
+
+-- nothing is not something
+pub none_some : {A : Type 0} {B : Type 0} {x : A} → none ≡ some x → B
+none_some h = absurd (let z : ◌≡◌ {A = ℕ} 0 1 = cc in omega arith)
+
+-- what is there is something
+pub some_of : {A : Type 0} (o : Option A) → has o ≡ true → (x : A) × (o ≡ some x)
+some_of none e = absurd (let z : ◌≡◌ {A = ℕ} 0 1 = cc in omega arith)
+some_of (some x) e = (x, refl)
 
 -- ---- the pieces under t
 
@@ -90,6 +100,35 @@ from_either true (some y) rest x e = inl (refl, e)
 from_either true none rest x e = inr e
 from_either false o rest x e = inr e
 
+-- what holds of every whole record under t at those nodes holds of the one found
+whole_has : (P : Bytes → Type 0) (Q : ℕ → Bool) (a : ℕ → Node) (t : Stamp) (i l : ℕ)
+    → ((j : ℕ) → i ≤ j → j < i + l → Q j ≡ true → (b : Bytes) → spare_record t (a j).spare ≡ some b → P b)
+    → (b : Bytes) → whole Q a t i l ≡ some b → P b
+unfolding whole
+whole_has P Q a t i zero h b e = none_some e
+whole_has P Q a t i (suc l) h b e =
+    elim (from_either (Q i) (spare_record t (a i).spare) (whole Q a t (suc i) l) b e) [
+      | inl x ↦ h i (omega arith) (omega arith) x.0 b x.1
+      | inr x ↦ whole_has P Q a t (suc i) l (λ j x y. h j (omega arith) (omega arith)) b x
+    ]
+
+-- what passes as a record was there before the test
+record_there : (o : Option Bytes) (b : Bytes) → if_record o ≡ some b → o ≡ some b
+record_there none b e = none_some e
+record_there (some r) b e = go (is_record r) e
+  where
+    go : (v : Bool) → given v r ≡ some b → some r ≡ some b
+    go true e = e
+    go false e = none_some e
+
+-- bytes that are there pass if a record lies in them
+there_record : (o : Option Bytes) (b : Bytes) → o ≡ some b → is_record b ≡ true → has (if_record o) ≡ true
+there_record o b e v = rw (e, v)
+
+-- what lies under t, whole or joined from pieces
+abbrev lies_under : Meaning → (ℕ → Bool) → (ℕ → Node) → Stamp → Option Bytes
+lies_under C Q a t = or_else (whole Q a t 0 C.n) (given (leb C.k (length (pieces Q a t 0 C.n))) (joined C (pieces Q a t 0 C.n)))
+
 module _ (C : Meaning) (Q : ℕ → Bool) (a : ℕ → Node) (r : Bytes) (t : Stamp) where
   pieces_of : (i l : ℕ) → ((j : ℕ) → i ≤ j → j < i + l → Q j ≡ true → Under C r t j (a j)) → Of (C.piece r) (pieces Q a t i l)
   unfolding pieces
@@ -103,15 +142,6 @@ module _ (C : Meaning) (Q : ℕ → Bool) (a : ℕ → Node) (r : Bytes) (t : St
       go true q (some y) p u x = ((u q).of_piece y p, x)
       go false q o p u x = x
 
-  whole_of : (i l : ℕ) → ((j : ℕ) → i ≤ j → j < i + l → Q j ≡ true → Under C r t j (a j)) → (b : Bytes) → whole Q a t i l ≡ some b → b ≡ r
-  unfolding whole
-  whole_of i zero h b e = grind arith
-  whole_of i (suc l) h b e =
-      elim (from_either (Q i) (spare_record t (a i).spare) (whole Q a t (suc i) l) b e) [
-        | inl x ↦ (h i (omega arith) (omega arith) x.0).of_whole b x.1
-        | inr x ↦ whole_of (suc i) l (λ j x y. h j (omega arith) (omega arith)) b x
-      ]
-
   module _ (L : Lawful C) (all : (j : ℕ) → j < C.n → Q j ≡ true → Under C r t j (a j)) (long : code.Bytes 24 r) where
     -- what k pieces join to is r
     pub joins : C.k ≤ length (pieces Q a t 0 C.n) → joined C (pieces Q a t 0 C.n) ≡ r
@@ -121,27 +151,30 @@ module _ (C : Meaning) (Q : ℕ → Bool) (a : ℕ → Node) (r : Bytes) (t : St
         let o = chosen C.k C.n ps (simp length-take (omega arith)) (take_rising C.k 0 C.n (pieces Q a t 0 C.n) (pieces_rising Q a t 0 C.n C.n (omega arith))) in
         ap (C.join (numbers ps)) c ∙ rebuilds C L r (numbers ps) long o
 
+    -- what lies under t is r
+    lies_is : (b : Bytes) → lies_under C Q a t ≡ some b → b ≡ r
+    lies_is b e = go (whole Q a t 0 C.n) refl (leb C.k (length (pieces Q a t 0 C.n))) refl e
+      where
+        go : (o : Option Bytes) → whole Q a t 0 C.n ≡ o → (l : Bool) → leb C.k (length (pieces Q a t 0 C.n)) ≡ l
+            → or_else o (given l (joined C (pieces Q a t 0 C.n))) ≡ some b → b ≡ r
+        go (some x) q l m e = whole_has (λ y. y ≡ r) Q a t 0 C.n (λ j x y q. (all j (omega arith) q).of_whole) b (q ∙ e)
+        go none q true m e = let z : joined C (pieces Q a t 0 C.n) ≡ b = cc in sym z ∙ joins (leb-true _ _ m)
+        go none q false m e = cc
+
     -- what is rebuilt under t is r
     pub record_is : (b : Bytes) → record_under C Q a t ≡ some b → b ≡ r
     unfolding record_under
-    record_is b e = go (whole Q a t 0 C.n) refl (leb C.k (length (pieces Q a t 0 C.n))) refl (is_record (joined C (pieces Q a t 0 C.n))) e
-      where
-        go : (o : Option Bytes) → whole Q a t 0 C.n ≡ o → (l : Bool) → leb C.k (length (pieces Q a t 0 C.n)) ≡ l → (v : Bool)
-            → or_else o (given (l && v) (joined C (pieces Q a t 0 C.n))) ≡ some b → b ≡ r
-        go (some x) q l m v e = whole_of 0 C.n (λ j x y. all j (omega arith)) b (q ∙ e)
-        go none q true m true e = let z : joined C (pieces Q a t 0 C.n) ≡ b = cc in sym z ∙ joins (leb-true _ _ m)
-        go none q true m false e = cc
-        go none q false m v e = cc
+    record_is b e = lies_is b (record_there (lies_under C Q a t) b e)
 
     -- with k pieces something is rebuilt
     pub record_some : is_record r ≡ true → C.k ≤ length (pieces Q a t 0 C.n) → has (record_under C Q a t) ≡ true
     unfolding record_under
-    record_some v h = go (whole Q a t 0 C.n) (le-leb _ _ h) (ap is_record (joins h) ∙ v)
+    record_some v h =
+        let x = some_of (lies_under C Q a t) (there (whole Q a t 0 C.n) (leb C.k (length (pieces Q a t 0 C.n))) (le-leb _ _ h)) in
+        there_record (lies_under C Q a t) x.0 x.1 (ap is_record (lies_is x.0 x.1) ∙ v)
       where
-        go : (o : Option Bytes) → leb C.k (length (pieces Q a t 0 C.n)) ≡ true → is_record (joined C (pieces Q a t 0 C.n)) ≡ true
-            → has (or_else o (given (leb C.k (length (pieces Q a t 0 C.n)) && is_record (joined C (pieces Q a t 0 C.n))) (joined C (pieces Q a t 0 C.n)))) ≡ true
-        go (some x) l v = refl
-        go none l v = rw (l, v)
+        there : (o : Option Bytes) (l : Bool) → l ≡ true → has (or_else o (given l (joined C (pieces Q a t 0 C.n)))) ≡ true
+        there o l h = grind arith
 
 -- ---- a whole record is rebuilt as it is
 
@@ -160,14 +193,15 @@ whole_some Q a t i (suc l) j h₁ h₂ q w =
     there : (o r : Option Bytes) → has r ≡ true → has (or_else o r) ≡ true
     there o r h = grind arith
 
-pub whole_record : (C : Meaning) (Q : ℕ → Bool) (a : ℕ → Node) (t : Stamp) → has (whole Q a t 0 C.n) ≡ true → has (record_under C Q a t) ≡ true
+-- a whole record that is found is rebuilt
+pub whole_record : (C : Meaning) (Q : ℕ → Bool) (a : ℕ → Node) (t : Stamp) → WholeRecords C Q a → has (whole Q a t 0 C.n) ≡ true → has (record_under C Q a t) ≡ true
 unfolding record_under
-whole_record C Q a t h = grind arith
+whole_record C Q a t good h =
+    let x = some_of (whole Q a t 0 C.n) h in
+    let v = whole_has (λ b. is_record b ≡ true) Q a t 0 C.n (λ j u v q. good j (omega arith) q t) x.0 x.1 in
+    there_record (lies_under C Q a t) x.0 (ap (λ o. or_else o (given (leb C.k (length (pieces Q a t 0 C.n))) (joined C (pieces Q a t 0 C.n)))) x.1) v
 
 -- ---- the highest readable stamp
-
-pub none_some : {A : Type 0} {B : Type 0} {x : A} → none ≡ some x → B
-none_some h = absurd (let z : ◌≡◌ {A = ℕ} 0 1 = cc in omega arith)
 
 later_is : (u v : Option Rebuilt) (x : Rebuilt) → later u v ≡ some x → (u ≡ some x) ⊎ (v ≡ some x)
 later_is none v x e = inr e
@@ -352,10 +386,10 @@ splits q t a h = grind (arith, nat_tests)
 
 module _ (C : Meaning) (L : Lawful C) (Q : ℕ → Bool) (a : ℕ → Node) (r : Bytes) where
   pub readable : C.n - C.f ≤ tally Q 0 C.n → C.n - C.f ≤ tally (λ j. keeps (top_floor Q a lowest 0 C.n) (a j)) 0 C.n
-      → ((j : ℕ) → j < C.n → Q j ≡ true → Under C r (top_floor Q a lowest 0 C.n) j (a j)) → code.Bytes 24 r → is_record r ≡ true
+      → ((j : ℕ) → j < C.n → Q j ≡ true → Under C r (top_floor Q a lowest 0 C.n) j (a j)) → WholeRecords C Q a → code.Bytes 24 r → is_record r ≡ true
       → has (rebuild C Q a) ≡ true
   unfolding rebuild
-  readable quorum closed all long good =
+  readable quorum closed all wholes long good =
       let t = top_floor Q a lowest 0 C.n in
       elim (cases_lt 0 (tally (λ j. Q j && record_from t (a j).spare) 0 C.n)) [
         | inl h ↦
@@ -363,7 +397,7 @@ module _ (C : Meaning) (L : Lawful C) (Q : ℕ → Bool) (a : ℕ → Node) (r :
             let b = and_parts _ _ j.3 in
             let u = whole_at t (a j.0).spare b.1 in
             best_some C Q a t u.0 (stamps Q a 0 C.n) (listed_in Q a u.0 0 C.n j.0 j.1 j.2 b.0 (listed_whole u.0 (a j.0) u.2)) u.1
-            (whole_record C Q a u.0 (whole_some Q a u.0 0 C.n j.0 j.1 j.2 b.0 u.2))
+            (whole_record C Q a u.0 wholes (whole_some Q a u.0 0 C.n j.0 j.1 j.2 b.0 u.2))
         | inr h ↦
             let m = meet Q (λ j. keeps t (a j)) 0 C.n in
             let e = either (λ j. Q j && keeps t (a j)) (λ j. Q j && has (node_piece t (a j))) (λ j. Q j && record_from t (a j).spare) 0 C.n

@@ -7,7 +7,7 @@ use Rattle.record.specs.Layout.{is_record}
 use Rattle.register.specs.Tables.{upd, tally}
 use Rattle.register.specs.Stamps.{Stamp, Earlier, NoLater}
 use Rattle.register.specs.Nodes.{Bytes, Node, held_bytes}
-use Rattle.register.specs.Reading.{Rebuilt, rebuild, pieces, joined}
+use Rattle.register.specs.Reading.{Rebuilt, rebuild, pieces, joined, spare_record}
 use Rattle.register.specs.Machine.{answered, looked, read_look, busy, Segment, Call, sign_on, sign_off, begin_write, begin_read, take, fetch, lay_out_refusal, laid_out}
 use Rattle.register.specs.History.{History, start, history, entries, after, stamp_of, open_after, Ended, Gave, From}
 
@@ -98,14 +98,25 @@ EveryCodeIsSafe = (m : Meaning) → Lawful m → Safe m
 abbrev pub JoinsRecords : Meaning → (ℕ → Bool) → (ℕ → Node) → Type 0
 JoinsRecords m Q a = (t : Stamp) → m.k ≤ length (pieces Q a t 0 m.n) → is_record (joined m (pieces Q a t 0 m.n)) ≡ true
 
--- Joined bytes that are no record are never met.
+-- Every whole record that lies at the nodes of Q is a record.
+abbrev pub WholeRecords : Meaning → (ℕ → Bool) → (ℕ → Node) → Type 0
+WholeRecords m Q a = (j : ℕ) → j < m.n → Q j ≡ true → (t : Stamp) (r : Bytes) → spare_record t (a j).spare ≡ some r → is_record r ≡ true
+
+-- What can be read at the nodes of Q are records.
+pub record RecordsAt (m : Meaning) (Q : ℕ → Bool) (a : ℕ → Node) : Type 0 where
+  -- joined from pieces
+  pub joins : JoinsRecords m Q a
+  -- or whole
+  pub wholes : WholeRecords m Q a
+
+-- Bytes that are no record are never met, joined or whole.
 pub record OnlyRecords (m : Meaning) (σ : Segment) : Type 0 where
   -- at no nodes
-  pub nodes : (Q : ℕ → Bool) → JoinsRecords m Q σ.node
+  pub nodes : (Q : ℕ → Bool) → RecordsAt m Q σ.node
   -- and in no read, whichever answer is fetched next
   pub answers : (c i allowed used : ℕ) (l : Option Bytes) (got : ℕ → Bool) (ans : ℕ → Node) (a : Node)
       → σ.client c ≡ busy l (read_look allowed used got ans) → i < m.n → σ.mail c i ≡ answered (looked a)
-      → JoinsRecords m (upd got i true) (upd ans i a)
+      → RecordsAt m (upd got i true) (upd ans i a)
 
 -- This is so after every list of calls from any segment just laid out.
 abbrev pub MeetsOnlyRecords : Meaning → Type 0

@@ -1,6 +1,6 @@
 -- What the holdings of some nodes rebuild: one rule for reads and for rebuilding.
 -- Nodes are a table a, and some of them a test Q.
-use Rattle.std.specs.Prelude.{ℕ, zero, suc, max, Bool, true, false, cond, ◌&&◌, List, [], ◌∷◌, ◌++◌, map, length, take, Some as some, None as none, Option, nat_le}
+use Rattle.std.specs.Prelude.{ℕ, zero, suc, max, Bool, true, false, cond, List, [], ◌∷◌, ◌++◌, map, length, take, Some as some, None as none, Option, nat_le}
 use Rattle.code.specs.Meaning.{Meaning}
 use Rattle.record.specs.Layout.{is_record}
 use Rattle.register.specs.Stamps.{Stamp, below, same_stamp, higher, lowest}
@@ -125,11 +125,16 @@ later none o = o
 later (some x) none = some x
 later (some x) (some y) = cond (below x.stamp y.stamp) (some y) (some x)
 
--- The record under t: a whole one, or what k pieces join to, where that is a record.
+-- Bytes that may be there, if a record lies in them.
+abbrev pub if_record : Option Bytes → Option Bytes
+if_record none = none
+if_record (some r) = given (is_record r) r
+
+-- The record under t: a whole one, or what k pieces join to. Bytes in which no record lies are not readable.
 unfoldable pub record_under : Meaning → (ℕ → Bool) → (ℕ → Node) → Stamp → Option Bytes
 record_under m Q a t =
     let ps = pieces Q a t 0 m.n in
-    or_else (whole Q a t 0 m.n) (given (nat_le m.k (length ps) && is_record (joined m ps)) (joined m ps))
+    if_record (or_else (whole Q a t 0 m.n) (given (nat_le m.k (length ps)) (joined m ps)))
 
 -- The record under the highest readable one of some stamps: a stamp below F is not readable.
 unfoldable pub highest : Meaning → (ℕ → Bool) → (ℕ → Node) → Stamp → List Stamp → Option Rebuilt

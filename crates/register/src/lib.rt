@@ -30,7 +30,7 @@ pub fn quorum<C: Code>() -> usize
 }
 
 /// How many pieces under one stamp are enough to read it.
-/// After every list of calls, so many pieces under one stamp join to bytes in which a record lies.
+/// After every list of calls, so many pieces under one stamp join to bytes in which a record lies, and one lies in every whole record held.
 pub fn readable_from<C: Code>() -> usize
     ensures count { result ≡ C.Code.meaning.k }
     ensures records { MeetsOnlyRecords C.Code.meaning }
