@@ -1,6 +1,5 @@
 -- The record under a stamp, from what was gathered.
 use Rattle.std.proofs.Common.{◌≡◌, ℕ, ◌<◌, ◌≤◌, min, Bool, true, false, cond, List, [], ◌++◌, length, take, Some as some, None as none, Option, sym, refl, ap, ◌∙◌, subst, append-nil, arith, length-take}
-use Rattle.std.proofs.lemmas.List.FromFn.{length-map-range_with_len}
 use Rattle.std.proofs.lemmas.List.{take_all}
 use Rattle.std.proofs.lemmas.Bool.{le-leb, lt-leb}
 use Rattle.code.specs.Meaning.{Meaning, Chosen}
@@ -8,8 +7,9 @@ use Rattle.record.specs.Layout.{is_record, lying_in}
 use Rattle.register.specs.Stamps.{Stamp}
 use Rattle.register.specs.Nodes.{Bytes, Node}
 use Rattle.register.specs.Reading.{given, only_if, with_piece, if_record, Numbered, numbers, contents, joined, pieces, whole, record_under}
-use Rattle.node.specs.declared.parts.Parts.{Parts}
-use Rattle.node.specs.Picked.{part_at, parts}
+use Rattle.node.specs.declared.pieces.Pieces.{Pieces}
+use Rattle.node.specs.Picked.{parts}
+use Rattle.node.proofs.Picks.{length_parts}
 use Rattle.register.proofs.Readable.{Rising, chosen, take_rising, pieces_rising}
 
 -- the register's test and the record's are one
@@ -57,11 +57,11 @@ module _ (m : Meaning) (Q : ℕ → Bool) (a : ℕ → Node) (t : Stamp) where
           rw (no_whole, le-leb m.k (length (pieces Q a t 0 m.n)) (omega arith), ← z) (lies x)
 
 -- at most k pieces are picked
-pub few_parts : (m : Meaning) (p : Parts) → length (parts m p) ≤ m.k
-few_parts m p = let e = length-map-range_with_len (part_at m.w p) 0 (min p.count m.k) in omega arith
+pub few_parts : (m : Meaning) (p : Pieces ℕ 8) → length (parts m p) ≤ m.k
+few_parts m p = let e = length_parts m p in omega arith
 
 -- a node that was not fetched adds no piece
-pub none_added : (m : Meaning) (p : Parts) (i : ℕ) (b : Bool) (o : Option Bytes) → b ≡ false
+pub none_added : (m : Meaning) (p : Pieces ℕ 8) (i : ℕ) (b : Bool) (o : Option Bytes) → b ≡ false
     → parts m p ≡ take m.k (parts m p ++ with_piece i (only_if b o) [])
 none_added m p i b o e =
     rw e (sym (ap (take m.k) (append-nil (parts m p)) ∙ take_all m.k (parts m p) (few_parts m p)))

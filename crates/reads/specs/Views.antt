@@ -4,7 +4,7 @@ use Rattle.code.specs.Meaning.{Meaning}
 use Rattle.register.specs.Nodes as register
 use Rattle.register.specs.Machine.{no_answers}
 use Rattle.node.specs.declared.nodes.Node.{Node}
-use Rattle.node.specs.declared.spares.Use.TheVariants.{Free}
+use Rattle.node.specs.declared.spares.Spare.TheVariants.{Free}
 use Rattle.node.specs.Shelved.{no_stamp}
 use Rattle.node.specs.Views.{node}
 use Rattle.reads.specs.declared.rounds.Answers.{Answers}
@@ -17,8 +17,8 @@ bit_of mask i = mask / 2 ^ i % 2 == 1
 abbrev pub past_nodes : Node
 past_nodes = record {
   floor = no_stamp;
-  shelf = record { count = 0; stamps = []; bytes = [] };
-  spare = record { holds = Free; stamp = no_stamp; bytes = [] };
+  shelf = record { count = 0; tags = []; bytes = [] };
+  spare = Free;
 }
 
 -- The nodes fetched.

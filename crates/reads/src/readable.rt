@@ -47,7 +47,7 @@ impl Answers {
         ensures { parts_of C.Code.meaning result ≡ take C.Code.meaning.k (pieces (got self.now) (answer C.Code.meaning self.now) (stamp_of stamp) 0 C.Code.meaning.n) }
     {
         let mut parts = Parts::none::<C>();
-        for i in 0..C::nodes() {
+        for i in 0..C::N {
             self.gather_at::<C>(&mut parts, i, stamp);
         }
         parts
@@ -69,7 +69,7 @@ impl Answers {
     fn whole_under<C: Code>(&self, stamp: Stamp) -> Option<&[u8]>
         ensures { option_map (λ x. x.now) result ≡ whole (got self.now) (answer C.Code.meaning self.now) (stamp_of stamp) 0 C.Code.meaning.n }
     {
-        for i in 0..C::nodes() {
+        for i in 0..C::N {
             if let Some(bytes) = self.whole_at::<C>(i, stamp) {
                 return Some(bytes);
             }
@@ -85,7 +85,7 @@ impl Answers {
             return lying_in(bytes);
         }
         let parts = self.gather::<C>(stamp);
-        if parts.len::<C>() < C::needed() {
+        if parts.len::<C>() < C::K {
             return None;
         }
         let joined = parts.joined::<C>();
@@ -130,7 +130,7 @@ impl Answers {
     {
         let floor = self.top_floor::<C>();
         let mut best = None;
-        for i in 0..C::nodes() {
+        for i in 0..C::N {
             best = self.offer_node::<C>(best, i, floor);
         }
         best

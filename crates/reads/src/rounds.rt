@@ -71,10 +71,9 @@ impl Answers {
     pub fn closes<C: Code>(&self) -> bool
         ensures { result ≡ closes C.Code.meaning (got self.now) }
     {
-        let n = C::nodes();
-        let all = (1u32 << n) - 1;
-        let fetched = (self.fetched as u32) & all;
-        fetched.count_ones() as usize >= n - C::silent()
+        let all = (1u32 << C::N) - 1;
+        let fetched = u32::from(self.fetched) & all;
+        fetched.count_ones() as usize >= C::N - C::F
     }
 
     // The higher of a stamp and the floor of node i, if that was fetched.
@@ -94,7 +93,7 @@ impl Answers {
         ensures { stamp_of result ≡ top_floor (got self.now) (answer C.Code.meaning self.now) lowest 0 C.Code.meaning.n }
     {
         let mut top = Stamp::lowest();
-        for i in 0..C::nodes() {
+        for i in 0..C::N {
             top = self.floor_over::<C>(top, i);
         }
         top
@@ -117,7 +116,7 @@ impl Answers {
         ensures { result ≡ top_count (got self.now) (answer C.Code.meaning self.now) 0 C.Code.meaning.n }
     {
         let mut top = 0;
-        for i in 0..C::nodes() {
+        for i in 0..C::N {
             top = top.max(self.count_at::<C>(i));
         }
         top

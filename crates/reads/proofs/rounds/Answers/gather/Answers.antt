@@ -15,6 +15,7 @@ loop-i-init g c =
 
 pub loop-i-preserved : goal.loop-i-preserved
 loop-i-preserved g c =
+    let n = c.N-i-end.ensures ∙ g.met.C.Code.n_is in
     let m = g.C.Code.meaning in
     sym (gather_more (got c.args.self.now) (answer m c.args.self.now) c.loop-i.i m.n (stamp c.args.stamp) m.k
     (parts m c.loop-i.parts) (parts m c.gather_at.new.parts) (omega arith) c.gather_at.ensures)
@@ -22,6 +23,7 @@ loop-i-preserved g c =
 
 pub returns : goal.returns
 returns g c =
+    let n = c.N-i-end.ensures ∙ g.met.C.Code.n_is in
     let m = g.C.Code.meaning in
     sym (gather_all (got c.args.self.now) (answer m c.args.self.now) c.loop-i.i m.n (stamp c.args.stamp) m.k
     (parts m c.loop-i.parts) (omega arith) (few_parts m c.loop-i.parts))

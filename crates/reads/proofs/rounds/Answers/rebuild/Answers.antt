@@ -17,6 +17,7 @@ loop-i-init g c =
 
 pub loop-i-preserved : goal.loop-i-preserved
 loop-i-preserved g c =
+    let n = c.N-i-end.ensures ∙ g.met.C.Code.n_is in
     let m = g.C.Code.meaning in
     let i = c.loop-i.i in
     let Q = got c.args.self.now in
@@ -29,6 +30,7 @@ loop-i-preserved g c =
 pub returns : goal.returns
 unfolding rebuild
 returns g c =
+    let n = c.N-i-end.ensures ∙ g.met.C.Code.n_is in
     let m = g.C.Code.meaning in
     let Q = got c.args.self.now in
     let a = answer m c.args.self.now in

@@ -1,4 +1,4 @@
-use Rattle.std.proofs.Common.{◌≡◌, ◌-◌, max, ap, arith, rules}
+use Rattle.std.proofs.Common.{◌≡◌, ◌-◌, max, ap, ◌∙◌, arith, rules}
 use Rattle.register.specs.Reading.{top_count}
 use Rattle.reads.specs.Views.{got, answer}
 use Rattle.reads.proofs.Loops.{count_more, count_all}
@@ -13,6 +13,7 @@ loop-i-init g c =
 
 pub loop-i-preserved : goal.loop-i-preserved
 loop-i-preserved g c =
+    let n = c.N-i-end.ensures ∙ g.met.C.Code.n_is in
     let m = g.C.Code.meaning in
     let t : c.max-top.result ≡ max c.loop-i.top c.count_at.result = search rules in
     let z = count_more (got c.args.self.now) (answer m c.args.self.now) c.loop-i.i m.n (omega arith) in
@@ -22,6 +23,7 @@ loop-i-preserved g c =
 
 pub returns : goal.returns
 returns g c =
+    let n = c.N-i-end.ensures ∙ g.met.C.Code.n_is in
     let m = g.C.Code.meaning in
     let z = count_all (got c.args.self.now) (answer m c.args.self.now) c.loop-i.i m.n (omega arith) in
     let x = c.loop-i.invariant in

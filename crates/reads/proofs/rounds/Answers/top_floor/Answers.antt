@@ -13,6 +13,7 @@ loop-i-init g c =
 
 pub loop-i-preserved : goal.loop-i-preserved
 loop-i-preserved g c =
+    let few = c.N-i-end.ensures ∙ g.met.C.Code.n_is in
     let n = g.C.Code.meaning.n in
     let i = c.loop-i.i in
     let Q = got c.args.self.now in
@@ -21,5 +22,6 @@ loop-i-preserved g c =
 
 pub returns : goal.returns
 returns g c =
+    let few = c.N-i-end.ensures ∙ g.met.C.Code.n_is in
     let m = g.C.Code.meaning in
     sym (floor_all (got c.args.self.now) (answer m c.args.self.now) c.loop-i.i m.n (stamp c.loop-i.top) (omega arith)) ∙ c.loop-i.invariant

@@ -13,15 +13,18 @@ loop-i-init g c =
 
 pub loop-i-preserved : goal.loop-i-preserved
 loop-i-preserved g c =
+    let n = c.N-i-end.ensures ∙ g.met.C.Code.n_is in
     let m = g.C.Code.meaning in
     sym (whole_next (got c.args.self.now) (answer m c.args.self.now) c.loop-i.i m.n (stamp c.args.stamp) (omega arith) (search rules)) ∙ c.loop-i.invariant
 
 pub returns-in-Some : goal.returns-in-Some
 returns-in-Some g c =
+    let n = c.N-i-end.ensures ∙ g.met.C.Code.n_is in
     let m = g.C.Code.meaning in
     sym (whole_here (got c.args.self.now) (answer m c.args.self.now) c.loop-i.i m.n (stamp c.args.stamp) (omega arith) _ (search rules)) ∙ c.loop-i.invariant
 
 pub returns : goal.returns
 returns g c =
+    let n = c.N-i-end.ensures ∙ g.met.C.Code.n_is in
     let m = g.C.Code.meaning in
     sym (sym c.loop-i.invariant ∙ whole_all (got c.args.self.now) (answer m c.args.self.now) c.loop-i.i m.n (stamp c.args.stamp) (omega arith))
