@@ -66,9 +66,9 @@ low_ones : (l m : ℕ) → ones (bit_and m (2 ^ l - 1)) ≡ tally (bit_of m) 0 l
 low_ones l m = low_part l (bit_and m (2 ^ l - 1)) 0 m (ap (λ v. bit_and v (2 ^ l - 1)) (omega arith))
 
 -- what the code computes at the close of a round
-pub closes_is : (n f n' f' m : ℕ) → n' ≡ n → f' ≡ f → n < 32
-    → leb (n' - f') (ones (bit_and m ((1 * 2 ^ n') % 4294967296 - 1))) ≡ leb (n - f) (tally (bit_of m) 0 n)
-closes_is n f n' f' m a b h = rw (a, b, one_shl n 32 h) (ap (leb (n - f)) (low_ones n m))
+pub closes_is : (n f n' n'' f' m m' : ℕ) → n' ≡ n → n'' ≡ n → f' ≡ f → m' ≡ m → n < 32
+    → leb (n'' - f') (ones (bit_and m' ((1 * 2 ^ n') % 4294967296 - 1))) ≡ leb (n - f) (tally (bit_of m) 0 n)
+closes_is n f n' n'' f' m m' a b c d h = rw (a, b, c, d, one_shl n 32 h) (ap (leb (n - f)) (low_ones n m))
 
 -- what the code sets when a node is fetched
 pub mark_is : (m i : ℕ) → i < 8 → bit_of (bit_or m ((1 * 2 ^ i) % 256)) ≡ upd (bit_of m) i true

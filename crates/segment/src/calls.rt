@@ -74,7 +74,7 @@ impl<C: Code> Segment<C> {
         if !self.state.has_client(client) {
             return Err(Refusal::NoClient);
         }
-        if node as usize >= C::nodes() {
+        if node as usize >= C::N {
             return Err(Refusal::NoNode);
         }
         let i = node as usize;
@@ -93,7 +93,7 @@ impl<C: Code> Segment<C> {
         if !self.state.has_client(client) {
             return Err(Refusal::NoClient);
         }
-        if node as usize >= C::nodes() {
+        if node as usize >= C::N {
             return Err(Refusal::NoNode);
         }
         self.state
@@ -105,7 +105,7 @@ impl<C: Code> Segment<C> {
     pub fn held(&self, node: u32) -> Result<usize, Refusal>
         ensures { counted result ≡ held C.Code.meaning node (view C.Code.meaning self.now) }
     {
-        if node as usize >= C::nodes() {
+        if node as usize >= C::N {
             return Err(Refusal::NoNode);
         }
         Ok(self.state.nodes[node as usize].held::<C>())

@@ -15,7 +15,7 @@ ghost use Rattle.segment.specs.Views.{view};
 use crate::refusals::Refusal;
 use crate::state::{Entry, Mail, Phase, Post, Request, Rounds, Segment, State, Table};
 use code::Code;
-use node::{Node, Stamp};
+use node::{Node, Stamp, Stamped};
 use reads::Answers;
 use record::Record;
 use std::marker::PhantomData;
@@ -33,8 +33,14 @@ fn first_nodes<C: Code>(stamp: Stamp, whole: [u8; 24]) -> [Node; 8]
     ensures { (j : ℕ) → j < C.Code.meaning.n → node_of C.Code.meaning (slice_index_or result j past_nodes) ≡ record { floor = stamp_of stamp; shelf = record { stamp = stamp_of stamp; bytes = C.Code.meaning.piece whole j } ∷ []; spare = free } }
 {
     let mut nodes = [Node::empty(); 8];
-    for i in 0..C::nodes() {
-        nodes[i] = Node::laid::<C>(i as u8, stamp, whole);
+    for i in 0..C::N {
+        nodes[i] = Node::laid::<C>(
+            i as u8,
+            Stamped {
+                stamp,
+                bytes: whole,
+            },
+        );
     }
     nodes
 }

@@ -10,7 +10,7 @@ ghost use Rattle.segment.specs.Waits.{is_waiting, First};
 
 use crate::state::{Mail, Post, Request, Round};
 use code::Code;
-use node::{Node, Stamp};
+use node::{Node, Stamp, Stamped};
 
 impl Request {
     // A Look, with the record that a write will store.
@@ -58,7 +58,7 @@ impl Post {
     pub(crate) fn first_waiting<C: Code>(&self) -> Option<u8>
         ensures { First (λ i. is_waiting (tag self.now i)) C.Code.meaning.n result }
     {
-        for i in 0..C::nodes() {
+        for i in 0..C::N {
             if self.is_waiting(i) {
                 return Some(i as u8);
             }
@@ -106,9 +106,11 @@ impl Post {
             Round::Store => {
                 node.store::<C>(
                     i as u8,
-                    self.request.stamp,
+                    Stamped {
+                        stamp: self.request.stamp,
+                        bytes: self.request.whole,
+                    },
                     self.request.floor,
-                    self.request.whole,
                 );
                 self.mails[i] = Mail::Stored;
             }

@@ -9,6 +9,7 @@ pub loop-i-preserved : goal.loop-i-preserved
 loop-i-preserved g c =
     let m = g.C.Code.meaning in
     let few = g.met.C.Code.lawful.few in
+    let n = c.N-i-end.ensures ∙ g.met.C.Code.n_is in
     let i = c.loop-i.i in
     let ns = c.loop-i.nodes in
     let long = c.loop-i.invariant.0 in (

@@ -1,4 +1,4 @@
-use Rattle.std.proofs.Common.{◌∙◌, arith}
+use Rattle.std.proofs.Common.{◌∙◌, arith, rules}
 use Rattle.reads.proofs.Masks.{closes_is}
 use Rattle.reads.proofs.rounds.Answers.closes.Goals as goal
 
@@ -6,4 +6,5 @@ pub returns : goal.returns
 returns g c =
     let l = g.met.C.Code.lawful.few in
     let m = g.C.Code.meaning in
-    closes_is m.n m.f c.N-2.result c.F.result c.args.self.now.fetched (c.N-2.ensures ∙ g.met.C.Code.n_is) (c.F.ensures ∙ g.met.C.Code.f_is) (omega arith)
+    let n = g.met.C.Code.n_is in
+    closes_is m.n m.f c.N.result c.N-2.result c.F.result c.args.self.now.fetched c.from.result (c.N.ensures ∙ n) (c.N-2.ensures ∙ n) (c.F.ensures ∙ g.met.C.Code.f_is) (search rules) (omega arith)
