@@ -12,7 +12,6 @@ mod laying;
 pub mod posts;
 pub mod refusals;
 pub mod state;
-pub mod tables;
 
 pub use refusals::{Ending, Refusal};
 pub use state::{Fetched, Reading, Round, Segment, Sight, Waiting};
