@@ -20,22 +20,19 @@ use record::Record;
 const LAST_COUNT: u32 = 999_999_999;
 
 // Whether a record is the same as the last one found, if there is one.
+#[tactic(auto, using(record::proofs::Whole::layout_same))]
 fn sight(last: &Option<Record>, content: &Record) -> Sight
     ensures { is_same result ≡ same_of (last_of last.now) (layout content.now) }
 {
-    match last {
-        None => Sight::New,
-        Some(before) => {
-            if before.same(content) {
-                Sight::Same
-            } else {
-                Sight::New
-            }
-        }
+    if last.is_some_and(|before| before.same(content)) {
+        Sight::Same
+    } else {
+        Sight::New
     }
 }
 
 impl Entry {
+    #[tactic(auto, unfolding(register::specs::Machine::on_turn))]
     pub(crate) fn sign_on<C: Code>(&mut self) -> Result<(), Refusal>
         ensures { Turned C.Code.meaning self.new (did result) (on_turn (client_of C.Code.meaning self.old) (mails_of C.Code.meaning self.old.post)) }
     {
@@ -49,6 +46,7 @@ impl Entry {
         }
     }
 
+    #[tactic(auto, unfolding(register::specs::Machine::off_turn))]
     pub(crate) fn sign_off<C: Code>(&mut self) -> Result<(), Refusal>
         ensures { Turned C.Code.meaning self.new (did result) (off_turn (client_of C.Code.meaning self.old) (mails_of C.Code.meaning self.old.post)) }
     {
@@ -62,6 +60,7 @@ impl Entry {
         }
     }
 
+    #[tactic(auto, unfolding(register::specs::Machine::write_turn))]
     pub(crate) fn begin_write<C: Code>(&mut self, whole: [u8; 24]) -> Result<(), Refusal>
         ensures { Turned C.Code.meaning self.new (did result) (write_turn C.Code.meaning whole (client_of C.Code.meaning self.old) (mails_of C.Code.meaning self.old.post)) }
     {
@@ -76,13 +75,14 @@ impl Entry {
         }
     }
 
+    #[tactic(auto, unfolding(register::specs::Machine::read_turn))]
     pub(crate) fn begin_read<C: Code>(&mut self, rounds: u32) -> Result<(), Refusal>
         ensures { Turned C.Code.meaning self.new (did result) (read_turn C.Code.meaning rounds (client_of C.Code.meaning self.old) (mails_of C.Code.meaning self.old.post)) }
     {
         match self.phase {
             Phase::Off => Err(Refusal::SignedOff),
             Phase::Idle => {
-                if rounds < 1 || rounds > 250 {
+                if !(1..=250).contains(&rounds) {
                     return Err(Refusal::Rounds);
                 }
                 self.phase = Phase::ReadLook;
@@ -99,7 +99,8 @@ impl Entry {
 
     // A Look answer of a write. At the close of the round the write is stamped above the highest count, unless there is none.
     fn fetch_look<C: Code>(&mut self, me: u8, i: usize) -> Fetched
-        requires { (i < C.Code.meaning.n) × (self.old.phase ≡ WriteLook) }
+        requires there { i < C.Code.meaning.n }
+        requires open { self.old.phase ≡ WriteLook }
         ensures turned { (p : Record) → Turned C.Code.meaning self.new (fetched (Ok result) p) (write_look_turn C.Code.meaning me i (mails_of C.Code.meaning self.old.post) (last_of self.old.last) self.old.post.request.whole (upd (got self.old.post.answers) i true) (upd (answer C.Code.meaning self.old.post.answers) i (shown C.Code.meaning self.old.post.answers i))) }
         ensures place { WritesNothing result }
     {
@@ -130,7 +131,8 @@ impl Entry {
 
     // A Store answer. At the close of the round the stamp is settled.
     fn fetch_store<C: Code>(&mut self, me: u8, i: usize) -> Fetched
-        requires { (i < C.Code.meaning.n) × (self.old.phase ≡ WriteStore) }
+        requires there { i < C.Code.meaning.n }
+        requires open { self.old.phase ≡ WriteStore }
         ensures turned { (p : Record) → Turned C.Code.meaning self.new (fetched (Ok result) p) (store_turn C.Code.meaning me i (mails_of C.Code.meaning self.old.post) (last_of self.old.last) self.old.post.request.whole (stamp_of self.old.post.request.stamp) (stamp_of self.old.post.request.floor) (upd (got self.old.post.answers) i true)) }
         ensures place { WritesNothing result }
     {
@@ -147,7 +149,8 @@ impl Entry {
 
     // A Settle answer. At the close of the round the write ends.
     fn fetch_settle<C: Code>(&mut self, me: u8, i: usize) -> Fetched
-        requires { (i < C.Code.meaning.n) × (self.old.phase ≡ WriteSettle) }
+        requires there { i < C.Code.meaning.n }
+        requires open { self.old.phase ≡ WriteSettle }
         ensures turned { (p : Record) → Turned C.Code.meaning self.new (fetched (Ok result) p) (settle_turn C.Code.meaning me i (mails_of C.Code.meaning self.old.post) (last_of self.old.last) self.old.post.request.whole (stamp_of self.old.post.request.stamp) (upd (got self.old.post.answers) i true)) }
         ensures place { WritesNothing result }
     {
@@ -161,7 +164,8 @@ impl Entry {
 
     // A Look answer of a read. At the close of the round the read ends with the record that the answers rebuild, or looks again.
     fn fetch_read<C: Code>(&mut self, me: u8, i: usize, place: &mut Record) -> Fetched
-        requires { (i < C.Code.meaning.n) × (self.old.phase ≡ ReadLook) }
+        requires there { i < C.Code.meaning.n }
+        requires open { self.old.phase ≡ ReadLook }
         ensures turned { Turned C.Code.meaning self.new (fetched (Ok result) place.new) (read_look_turn C.Code.meaning me i (mails_of C.Code.meaning self.old.post) (last_of self.old.last) self.old.rounds.allowed self.old.rounds.used (upd (got self.old.post.answers) i true) (upd (answer C.Code.meaning self.old.post.answers) i (shown C.Code.meaning self.old.post.answers i))) }
         ensures place { layout place.new ≡ place_after (fetched (Ok result) place.new) (layout place.old) }
     {
@@ -211,16 +215,7 @@ impl Entry {
             (Phase::WriteStore, Mail::Stored) => Ok(self.fetch_store::<C>(me, i)),
             (Phase::WriteSettle, Mail::Settled) => Ok(self.fetch_settle::<C>(me, i)),
             (Phase::ReadLook, Mail::Looked) => Ok(self.fetch_read::<C>(me, i, place)),
-            (_, Mail::Empty) => Err(Refusal::NoAnswer),
-            (_, Mail::Waiting) => Err(Refusal::NoAnswer),
-            (Phase::WriteLook, Mail::Stored) => Err(Refusal::NoAnswer),
-            (Phase::WriteLook, Mail::Settled) => Err(Refusal::NoAnswer),
-            (Phase::WriteStore, Mail::Looked) => Err(Refusal::NoAnswer),
-            (Phase::WriteStore, Mail::Settled) => Err(Refusal::NoAnswer),
-            (Phase::WriteSettle, Mail::Looked) => Err(Refusal::NoAnswer),
-            (Phase::WriteSettle, Mail::Stored) => Err(Refusal::NoAnswer),
-            (Phase::ReadLook, Mail::Stored) => Err(Refusal::NoAnswer),
-            (Phase::ReadLook, Mail::Settled) => Err(Refusal::NoAnswer),
+            _ => Err(Refusal::NoAnswer),
         }
     }
 

@@ -74,7 +74,7 @@ impl<C: Code> Segment<C> {
         ensures laid { IfOk result (λ s. view C.Code.meaning s ≡ laid_out C.Code.meaning clients count (layout first.now)) }
         ensures safe { IfOk result (λ s. SafeFrom C.Code.meaning count (layout first.now) (view C.Code.meaning s)) }
     {
-        if clients < 1 || clients > 8 {
+        if !(1..=8).contains(&clients) {
             return Err(Refusal::Clients);
         }
         if count > 999_999_999 {

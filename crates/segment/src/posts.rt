@@ -45,13 +45,7 @@ impl Post {
         requires { i < 8 }
         ensures { result ≡ is_waiting (tag self.now i) }
     {
-        match self.mail(i) {
-            Mail::Waiting => true,
-            Mail::Empty => false,
-            Mail::Looked => false,
-            Mail::Stored => false,
-            Mail::Settled => false,
-        }
+        matches!(self.mail(i), Mail::Waiting)
     }
 
     // The first node where a request waits.
@@ -91,7 +85,8 @@ impl Post {
 
     // Node i carries out the request that waits in its mailbox, and leaves its answer there.
     pub(crate) fn serve<C: Code>(&mut self, i: usize, node: &mut Node)
-        requires { (i < C.Code.meaning.n) × (is_waiting (tag self.old i) ≡ true) }
+        requires there { i < C.Code.meaning.n }
+        requires waits { is_waiting (tag self.old i) ≡ true }
         ensures node { node_of C.Code.meaning node.new ≡ served C.Code.meaning i (request_of self.old.request) (node_of C.Code.meaning node.old) }
         ensures request { self.new.request ≡ self.old.request }
         ensures mails { mails_of C.Code.meaning self.new ≡ upd (mails_of C.Code.meaning self.old) i (answered (answers_with (request_of self.old.request) (node_of C.Code.meaning node.old))) }

@@ -42,82 +42,22 @@ returns-in-ReadLook-Looked g c =
       place = c.fetch_read.ensures.place;
     }
 
-pub returns-in_default-Empty : goal.returns-in_default-Empty
-returns-in_default-Empty g c =
+pub returns-in_default : goal.returns-in_default
+returns-in_default g c =
     let w : expects c.args.self.now.phase (tag c.args.self.now.post c.args.i) ≡ false = search rules in
     record { turned = when_other g.C.Code.meaning c.args.me c.args.i c.args.self.now c.requires w; place = refl }
 
-pub returns-in_default-Waiting : goal.returns-in_default-Waiting
-returns-in_default-Waiting g c =
+pub returns-in_default-2 : goal.returns-in_default-2
+returns-in_default-2 g c =
     let w : expects c.args.self.now.phase (tag c.args.self.now.post c.args.i) ≡ false = search rules in
     record { turned = when_other g.C.Code.meaning c.args.me c.args.i c.args.self.now c.requires w; place = refl }
 
-pub returns-in-WriteLook-Stored : goal.returns-in-WriteLook-Stored
-returns-in-WriteLook-Stored g c =
+pub returns-in_default-3 : goal.returns-in_default-3
+returns-in_default-3 g c =
     let w : expects c.args.self.now.phase (tag c.args.self.now.post c.args.i) ≡ false = search rules in
     record { turned = when_other g.C.Code.meaning c.args.me c.args.i c.args.self.now c.requires w; place = refl }
 
-pub returns-in-WriteLook-Settled : goal.returns-in-WriteLook-Settled
-returns-in-WriteLook-Settled g c =
-    let w : expects c.args.self.now.phase (tag c.args.self.now.post c.args.i) ≡ false = search rules in
-    record { turned = when_other g.C.Code.meaning c.args.me c.args.i c.args.self.now c.requires w; place = refl }
-
-pub returns-in-WriteStore-Looked : goal.returns-in-WriteStore-Looked
-returns-in-WriteStore-Looked g c =
-    let w : expects c.args.self.now.phase (tag c.args.self.now.post c.args.i) ≡ false = search rules in
-    record { turned = when_other g.C.Code.meaning c.args.me c.args.i c.args.self.now c.requires w; place = refl }
-
-pub returns-in-WriteStore-Settled : goal.returns-in-WriteStore-Settled
-returns-in-WriteStore-Settled g c =
-    let w : expects c.args.self.now.phase (tag c.args.self.now.post c.args.i) ≡ false = search rules in
-    record { turned = when_other g.C.Code.meaning c.args.me c.args.i c.args.self.now c.requires w; place = refl }
-
-pub returns-in-WriteSettle-Looked : goal.returns-in-WriteSettle-Looked
-returns-in-WriteSettle-Looked g c =
-    let w : expects c.args.self.now.phase (tag c.args.self.now.post c.args.i) ≡ false = search rules in
-    record { turned = when_other g.C.Code.meaning c.args.me c.args.i c.args.self.now c.requires w; place = refl }
-
-pub returns-in-WriteSettle-Stored : goal.returns-in-WriteSettle-Stored
-returns-in-WriteSettle-Stored g c =
-    let w : expects c.args.self.now.phase (tag c.args.self.now.post c.args.i) ≡ false = search rules in
-    record { turned = when_other g.C.Code.meaning c.args.me c.args.i c.args.self.now c.requires w; place = refl }
-
-pub returns-in-ReadLook-Stored : goal.returns-in-ReadLook-Stored
-returns-in-ReadLook-Stored g c =
-    let w : expects c.args.self.now.phase (tag c.args.self.now.post c.args.i) ≡ false = search rules in
-    record { turned = when_other g.C.Code.meaning c.args.me c.args.i c.args.self.now c.requires w; place = refl }
-
-pub returns-in-ReadLook-Settled : goal.returns-in-ReadLook-Settled
-returns-in-ReadLook-Settled g c =
-    let w : expects c.args.self.now.phase (tag c.args.self.now.post c.args.i) ≡ false = search rules in
-    record { turned = when_other g.C.Code.meaning c.args.me c.args.i c.args.self.now c.requires w; place = refl }
-
-pub returns-in_default-Empty-2 : goal.returns-in_default-Empty-2
-returns-in_default-Empty-2 g c =
-    let w : expects c.args.self.now.phase (tag c.args.self.now.post c.args.i) ≡ false = search rules in
-    record { turned = when_other g.C.Code.meaning c.args.me c.args.i c.args.self.now c.requires w; place = refl }
-
-pub returns-in_default-Empty-3 : goal.returns-in_default-Empty-3
-returns-in_default-Empty-3 g c =
-    let w : expects c.args.self.now.phase (tag c.args.self.now.post c.args.i) ≡ false = search rules in
-    record { turned = when_other g.C.Code.meaning c.args.me c.args.i c.args.self.now c.requires w; place = refl }
-
-pub returns-in_default-Empty-4 : goal.returns-in_default-Empty-4
-returns-in_default-Empty-4 g c =
-    let w : expects c.args.self.now.phase (tag c.args.self.now.post c.args.i) ≡ false = search rules in
-    record { turned = when_other g.C.Code.meaning c.args.me c.args.i c.args.self.now c.requires w; place = refl }
-
-pub returns-in_default-Waiting-2 : goal.returns-in_default-Waiting-2
-returns-in_default-Waiting-2 g c =
-    let w : expects c.args.self.now.phase (tag c.args.self.now.post c.args.i) ≡ false = search rules in
-    record { turned = when_other g.C.Code.meaning c.args.me c.args.i c.args.self.now c.requires w; place = refl }
-
-pub returns-in_default-Waiting-3 : goal.returns-in_default-Waiting-3
-returns-in_default-Waiting-3 g c =
-    let w : expects c.args.self.now.phase (tag c.args.self.now.post c.args.i) ≡ false = search rules in
-    record { turned = when_other g.C.Code.meaning c.args.me c.args.i c.args.self.now c.requires w; place = refl }
-
-pub returns-in_default-Waiting-4 : goal.returns-in_default-Waiting-4
-returns-in_default-Waiting-4 g c =
+pub returns-in_default-4 : goal.returns-in_default-4
+returns-in_default-4 g c =
     let w : expects c.args.self.now.phase (tag c.args.self.now.post c.args.i) ≡ false = search rules in
     record { turned = when_other g.C.Code.meaning c.args.me c.args.i c.args.self.now c.requires w; place = refl }

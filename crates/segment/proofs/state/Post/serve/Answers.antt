@@ -12,8 +12,8 @@ returns-in-Look g c =
     let few = g.met.C.Code.lawful.few in
     let p = c.args.self.now in
     let i = c.args.i in
-    let inside = c.requires.0 in
-    let h = looked m p i inside (omega (arith, inside)) c.requires.1 c.args.node.now c.show.new.self c.in-Look.is (c.show.ensures.long (omega (arith, inside))) (c.show.ensures.shown (omega (arith, inside))) in
+    let inside = c.requires.there in
+    let h = looked m p i inside (omega (arith, inside)) c.requires.waits c.args.node.now c.show.new.self c.in-Look.is (c.show.ensures.long (omega (arith, inside))) (c.show.ensures.shown (omega (arith, inside))) in
     record {
       node = sym (ap (λ r. served m i (request_as r p.request) (node m c.args.node.now)) c.in-Look.is);
       request = refl;
@@ -29,8 +29,8 @@ returns-in-Store g c =
     let few = g.met.C.Code.lawful.few in
     let p = c.args.self.now in
     let i = c.args.i in
-    let inside = c.requires.0 in
-    let h = stored m p i inside (omega (arith, inside)) c.requires.1 (node m c.args.node.now) c.in-Store.is in
+    let inside = c.requires.there in
+    let h = stored m p i inside (omega (arith, inside)) c.requires.waits (node m c.args.node.now) c.in-Store.is in
     record {
       node = c.store.ensures inside ∙ sym (ap (λ r. served m i (request_as r p.request) (node m c.args.node.now)) c.in-Store.is);
       request = refl;
@@ -46,8 +46,8 @@ returns-in-Settle g c =
     let few = g.met.C.Code.lawful.few in
     let p = c.args.self.now in
     let i = c.args.i in
-    let inside = c.requires.0 in
-    let h = settled m p i inside (omega (arith, inside)) c.requires.1 (node m c.args.node.now) c.in-Settle.is in
+    let inside = c.requires.there in
+    let h = settled m p i inside (omega (arith, inside)) c.requires.waits (node m c.args.node.now) c.in-Settle.is in
     record {
       node = c.settle.ensures inside ∙ sym (ap (λ r. served m i (request_as r p.request) (node m c.args.node.now)) c.in-Settle.is);
       request = refl;

@@ -1,4 +1,4 @@
-use Rattle.std.proofs.Common.{◌≡◌, ℕ, ◌<◌, ◌≤◌, [], ◌∷◌, get_or, None, sym, refl, subst, arith, rules}
+use Rattle.std.proofs.Common.{◌≡◌, ℕ, ◌<◌, ◌≤◌, [], ◌∷◌, get_or, None, sym, refl, subst, rules}
 use Rattle.record.specs.Layout.{layout}
 use Rattle.register.specs.Nodes.{free}
 use Rattle.register.specs.Machine.{lay_out_refusal}
@@ -15,7 +15,7 @@ returns g c =
     let count = c.args.count in
     let proper : ARecord (layout r) = subst ARecord c.first_bytes.ensures.bytes c.first_bytes.ensures.proper in
     let accepted : None ≡ lay_out_refusal c.args.clients count = search rules in
-    let few : c.args.clients ≤ 8 = omega arith in
+    let few : c.args.clients ≤ 8 = search rules in
     let x = c.first_entry.result in
     let each : (j : ℕ) → j < m.n → node m (get_or c.first_nodes.result j past_nodes) ≡ record { floor = record { count = count; client = 0 }; shelf = record { stamp = record { count = count; client = 0 }; bytes = m.piece (layout r) j } ∷ []; spare = free } =
     subst (λ b. (j : ℕ) → j < m.n → node m (get_or c.first_nodes.result j past_nodes) ≡ record { floor = record { count = count; client = 0 }; shelf = record { stamp = record { count = count; client = 0 }; bytes = m.piece b j } ∷ []; spare = free }) c.first_bytes.ensures.bytes c.first_nodes.ensures in
