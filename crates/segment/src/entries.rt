@@ -104,8 +104,7 @@ impl Entry {
         ensures turned { (p : Record) → Turned C.Code.meaning self.new (fetched (Ok result) p) (write_look_turn C.Code.meaning me i (mails_of C.Code.meaning self.old.post) (last_of self.old.last) self.old.post.request.whole (upd (got self.old.post.answers) i true) (upd (answer C.Code.meaning self.old.post.answers) i (shown C.Code.meaning self.old.post.answers i))) }
         ensures place { WritesNothing result }
     {
-        self.post.collect::<C>(i);
-        if !self.post.answers.closes::<C>() {
+        if !self.post.closes_with::<C>(i) {
             return Fetched::Kept;
         }
         let top = self.post.answers.top_count::<C>();
@@ -136,8 +135,7 @@ impl Entry {
         ensures turned { (p : Record) → Turned C.Code.meaning self.new (fetched (Ok result) p) (store_turn C.Code.meaning me i (mails_of C.Code.meaning self.old.post) (last_of self.old.last) self.old.post.request.whole (stamp_of self.old.post.request.stamp) (stamp_of self.old.post.request.floor) (upd (got self.old.post.answers) i true)) }
         ensures place { WritesNothing result }
     {
-        self.post.collect::<C>(i);
-        if !self.post.answers.closes::<C>() {
+        if !self.post.closes_with::<C>(i) {
             return Fetched::Kept;
         }
         let mut request = self.post.request;
@@ -154,8 +152,7 @@ impl Entry {
         ensures turned { (p : Record) → Turned C.Code.meaning self.new (fetched (Ok result) p) (settle_turn C.Code.meaning me i (mails_of C.Code.meaning self.old.post) (last_of self.old.last) self.old.post.request.whole (stamp_of self.old.post.request.stamp) (upd (got self.old.post.answers) i true)) }
         ensures place { WritesNothing result }
     {
-        self.post.collect::<C>(i);
-        if !self.post.answers.closes::<C>() {
+        if !self.post.closes_with::<C>(i) {
             return Fetched::Kept;
         }
         self.phase = Phase::Idle;
@@ -169,8 +166,7 @@ impl Entry {
         ensures turned { Turned C.Code.meaning self.new (fetched (Ok result) place.new) (read_look_turn C.Code.meaning me i (mails_of C.Code.meaning self.old.post) (last_of self.old.last) self.old.rounds.allowed self.old.rounds.used (upd (got self.old.post.answers) i true) (upd (answer C.Code.meaning self.old.post.answers) i (shown C.Code.meaning self.old.post.answers i))) }
         ensures place { layout place.new ≡ place_after (fetched (Ok result) place.new) (layout place.old) }
     {
-        self.post.collect::<C>(i);
-        if !self.post.answers.closes::<C>() {
+        if !self.post.closes_with::<C>(i) {
             return Fetched::Kept;
         }
         match self.post.answers.rebuild::<C>() {

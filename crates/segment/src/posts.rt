@@ -1,7 +1,7 @@
 //! The mailboxes of one client.
 ghost use Rattle.std.specs.Prelude.{◌≡◌, ◌<◌, true};
 ghost use Rattle.register.specs.Tables.{upd};
-ghost use Rattle.register.specs.Machine.{posted, empty, answered, answer as answers_with, served, nobody, no_answers};
+ghost use Rattle.register.specs.Machine.{closes, posted, empty, answered, answer as answers_with, served, nobody, no_answers};
 ghost use Rattle.node.specs.Views.{node as node_of};
 ghost use Rattle.reads.specs.Views.{got, shown, answer};
 ghost use Rattle.segment.specs.declared.state.Round.TheVariants.{Look};
@@ -23,6 +23,26 @@ impl Request {
             stamp: Stamp::lowest(),
             floor: Stamp::lowest(),
             whole,
+        }
+    }
+
+    // What node i does with the request.
+    #[tactic(auto, unfolding(register::specs::Machine::served))]
+    fn carry_out<C: Code>(&self, i: usize, node: &mut Node)
+        requires { i < C.Code.meaning.n }
+        ensures { node_of C.Code.meaning node.new ≡ served C.Code.meaning i (request_of self.now) (node_of C.Code.meaning node.old) }
+    {
+        match self.round {
+            Round::Look => (),
+            Round::Store => node.store::<C>(
+                i as u8,
+                Stamped {
+                    stamp: self.stamp,
+                    bytes: self.whole,
+                },
+                self.floor,
+            ),
+            Round::Settle => node.settle::<C>(i as u8, self.stamp),
         }
     }
 }
@@ -73,7 +93,7 @@ impl Post {
     }
 
     // The answer in mailbox i is fetched: the mailbox is empty then, and the answer counts in the round.
-    pub(crate) fn collect<C: Code>(&mut self, i: usize)
+    fn collect<C: Code>(&mut self, i: usize)
         requires { i < C.Code.meaning.n }
         ensures request { self.new.request ≡ self.old.request }
         ensures mails { mails_of C.Code.meaning self.new ≡ upd (mails_of C.Code.meaning self.old) i empty }
@@ -81,6 +101,19 @@ impl Post {
         ensures answers { answer C.Code.meaning self.new.answers ≡ upd (answer C.Code.meaning self.old.answers) i (shown C.Code.meaning self.old.answers i) }
     {
         self.answers.mark(i);
+    }
+
+    // The same, and whether the round closes with it.
+    pub(crate) fn closes_with<C: Code>(&mut self, i: usize) -> bool
+        requires { i < C.Code.meaning.n }
+        ensures closes { result ≡ closes C.Code.meaning (upd (got self.old.answers) i true) }
+        ensures request { self.new.request ≡ self.old.request }
+        ensures mails { mails_of C.Code.meaning self.new ≡ upd (mails_of C.Code.meaning self.old) i empty }
+        ensures fetched { got self.new.answers ≡ upd (got self.old.answers) i true }
+        ensures answers { answer C.Code.meaning self.new.answers ≡ upd (answer C.Code.meaning self.old.answers) i (shown C.Code.meaning self.old.answers i) }
+    {
+        self.collect::<C>(i);
+        self.answers.closes::<C>()
     }
 
     // Node i carries out the request that waits in its mailbox, and leaves its answer there.
@@ -99,18 +132,11 @@ impl Post {
                 self.mails[i] = Mail::Looked;
             }
             Round::Store => {
-                node.store::<C>(
-                    i as u8,
-                    Stamped {
-                        stamp: self.request.stamp,
-                        bytes: self.request.whole,
-                    },
-                    self.request.floor,
-                );
+                self.request.carry_out::<C>(i, node);
                 self.mails[i] = Mail::Stored;
             }
             Round::Settle => {
-                node.settle::<C>(i as u8, self.request.stamp);
+                self.request.carry_out::<C>(i, node);
                 self.mails[i] = Mail::Settled;
             }
         }

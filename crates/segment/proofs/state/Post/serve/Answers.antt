@@ -1,4 +1,4 @@
-use Rattle.std.proofs.Common.{sym, refl, ap, ◌∙◌, arith}
+use Rattle.std.proofs.Common.{sym, refl, ap, arith}
 use Rattle.register.specs.Machine.{served}
 use Rattle.node.specs.Views.{node}
 use Rattle.segment.specs.Views.{request_as}
@@ -32,7 +32,7 @@ returns-in-Store g c =
     let inside = c.requires.there in
     let h = stored m p i inside (omega (arith, inside)) c.requires.waits (node m c.args.node.now) c.in-Store.is in
     record {
-      node = c.store.ensures inside ∙ sym (ap (λ r. served m i (request_as r p.request) (node m c.args.node.now)) c.in-Store.is);
+      node = c.carry_out.ensures;
       request = refl;
       mails = h.mails;
       fetched = h.fetched;
@@ -49,7 +49,7 @@ returns-in-Settle g c =
     let inside = c.requires.there in
     let h = settled m p i inside (omega (arith, inside)) c.requires.waits (node m c.args.node.now) c.in-Settle.is in
     record {
-      node = c.settle.ensures inside ∙ sym (ap (λ r. served m i (request_as r p.request) (node m c.args.node.now)) c.in-Settle.is);
+      node = c.carry_out-in-Settle.ensures;
       request = refl;
       mails = h.mails;
       fetched = h.fetched;
