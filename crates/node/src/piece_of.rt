@@ -13,7 +13,7 @@ pub struct PieceOf<'a, C: Code> {
     pub ghost long: { length bytes.now ≡ C.Code.meaning.w },
 }
 
-// By hand, since none is derived over a ghost field that a parameter stands in.
+// By hand: a derive would ask it of the code too, and `derive_where` is refused over a ghost field.
 impl<'a, C: Code> Clone for PieceOf<'a, C> {
     ghost is_clone = { λ x y. y ≡ x };
 
