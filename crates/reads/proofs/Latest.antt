@@ -67,3 +67,6 @@ module _ (m : Meaning) (Q : ℕ → Bool) (a : ℕ → Node) (F : Stamp) where
   along_more x y ss j l e =
       ap (λ v. later y (highest m Q a F (drop v ss))) (add-one j)
       ∙ sym (ap (λ v. later x (highest m Q a F v)) (drop-cons ss j lowest l) ∙ left_more x y (get_or ss j lowest ∷ []) (drop (suc j) ss) e)
+
+-- what offering one stamp comes to
+pub ruleset offers = (offer_low, offer_early, offer_unread, offer_read)

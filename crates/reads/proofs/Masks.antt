@@ -5,6 +5,7 @@ use native.Mathlib.Nat.{div-eq_of_lt, mul-div-mul_right}
 use lib.Dec.{eqb-zero-suc, eqb-suc-zero, eqb-suc-suc}
 use lib.Bits.{bit_and, bit_or, or_shr, or_step}
 use lib.Count.{ones, ones_step}
+use Rattle.std.proofs.lemmas.Bool.{le-ltb}
 use Rattle.std.proofs.lemmas.Bool.Decides.{nat_tests}
 use Rattle.std.proofs.lemmas.Nat.{one_shl, and_mask, and_shr, and_mod, shr-shr, pow_pos}
 use Rattle.register.specs.Tables.{upd, bit, tally}
@@ -71,8 +72,8 @@ pub closes_is : (n f n' n'' f' m m' : ℕ) → n' ≡ n → n'' ≡ n → f' ≡
 closes_is n f n' n'' f' m m' a b c d h = rw (a, b, c, d, one_shl n 32 h) (ap (leb (n - f)) (low_ones n m))
 
 -- what the code sets when a node is fetched
-pub mark_is : (m i : ℕ) → i < 8 → bit_of (bit_or m ((1 * 2 ^ i) % 256)) ≡ upd (bit_of m) i true
-mark_is m i h = ap (λ v. bit_of (bit_or m v)) (one_shl i 8 h) ∙ set_bit m i
+pub bit_set : (m i j : ℕ) → i < 8 → bit_of (bit_or m ((1 * 2 ^ i) % 256)) j ≡ cond (eqb i j) true (bit_of m j)
+bit_set m i j h = ap (λ v. bit_of (bit_or m v) j) (one_shl i 8 h) ∙ ap (λ g. g j) (set_bit m i)
 
 -- a byte has no bits from 8 on
 pub no_bit : (m i : ℕ) → m < 256 → 8 ≤ i → bit_of m i ≡ false
@@ -80,3 +81,6 @@ no_bit m i h l =
     let p : 2 ^ 8 ≤ 2 ^ i = pow_mono l in
     let z : m / 2 ^ i ≡ 0 = div-eq_of_lt (let q : m < 2 ^ i = omega arith in q) in
     ap (λ v. eqb (v % 2) 1) z
+
+-- what is needed to test a bit
+pub ruleset bits = (and_mask, no_bit, le-ltb)

@@ -25,20 +25,18 @@ pub struct Found {
 fn is_later(stamp: Stamp, found: &Option<Found>) -> bool
     ensures { result ≡ is_later (stamp_of stamp) (found_of found.now) }
 {
-    match found {
-        None => true,
-        Some(best) => best.stamp.is_below(stamp),
-    }
+    found.is_none_or(|best| best.stamp.is_below(stamp))
 }
 
 impl Answers {
     // Adds the piece of node i under the stamp, if the node was fetched.
+    #[tactic(auto, using(crate::proofs::Under::none_added))]
     fn gather_at<C: Code>(&self, parts: &mut Parts, i: usize, stamp: Stamp)
         requires { i < 8 }
         ensures { parts_of C.Code.meaning parts.new ≡ take C.Code.meaning.k (parts_of C.Code.meaning parts.old ++ with_piece i (only_if (got self.now i) (node_piece (stamp_of stamp) (answer C.Code.meaning self.now i))) []) }
     {
-        if self.has(i) {
-            parts.add::<C>(i as u8, &self.nodes[i], stamp);
+        if let Some(node) = self.at(i) {
+            parts.add::<C>(i as u8, node, stamp);
         }
     }
 
@@ -58,11 +56,7 @@ impl Answers {
         requires { i < 8 }
         ensures { option_map (λ x. x.now) result ≡ only_if (got self.now i) (spare_record (stamp_of stamp) (answer C.Code.meaning self.now i).spare) }
     {
-        if self.has(i) {
-            self.nodes[i].record_under::<C>(stamp)
-        } else {
-            None
-        }
+        self.at(i)?.record_under::<C>(stamp)
     }
 
     // The first whole record under the stamp.
@@ -94,19 +88,15 @@ impl Answers {
 
     // The later of what was found and what the answers hold under one more stamp. A stamp below the floor is not readable,
     // and one that is not later need not be read.
+    #[tactic(auto, using(crate::proofs::Latest::offers))]
     fn offer<C: Code>(&self, found: Option<Found>, stamp: Stamp, floor: Stamp) -> Option<Found>
         ensures { found_of result ≡ later (found_of found) (highest C.Code.meaning (got self.now) (answer C.Code.meaning self.now) (stamp_of floor) (stamp_of stamp ∷ [])) }
     {
-        if stamp.is_below(floor) {
+        if stamp.is_below(floor) || !is_later(stamp, &found) {
             return found;
         }
-        if !is_later(stamp, &found) {
-            return found;
-        }
-        match self.record_under::<C>(stamp) {
-            None => found,
-            Some(content) => Some(Found { stamp, content }),
-        }
+        let content = self.record_under::<C>(stamp);
+        content.map(|content| Found { stamp, content }).or(found)
     }
 
     // The same for each stamp of node i, if the node was fetched.

@@ -1,12 +1,14 @@
 //! The answers of a round: which nodes were fetched, and what they showed.
-ghost use Rattle.std.specs.Prelude.{◌≡◌, ◌<◌, true, length, if◌then◌else◌, slice_set};
+ghost use Rattle.std.specs.Prelude.{◌≡◌, ℕ, ◌<◌, ◌==◌, true, Some, None, length, if◌then◌else◌, slice_set};
 ghost use Rattle.code.specs.Meaning.{Meaning};
 ghost use Rattle.register.specs.Tables.{upd};
 ghost use Rattle.register.specs.Stamps.{higher, lowest};
 ghost use Rattle.register.specs.Reading.{top_floor, top_count, list_count, node_stamps};
 ghost use Rattle.register.specs.Machine.{closes, nobody, no_answers};
 ghost use Rattle.node.specs.Stamped.{stamp as stamp_of};
-ghost use Rattle.reads.specs.Views.{got, shown, answer};
+ghost use Rattle.node.specs.Views.{node as node_of};
+ghost use Rattle.std.specs.Option.{option_map};
+ghost use Rattle.reads.specs.Views.{bit_of, got, shown, answer};
 
 use code::Code;
 use node::{Node, Stamp};
@@ -17,6 +19,15 @@ use node::{Node, Stamp};
 pub struct Answers {
     pub(crate) fetched: u8,
     pub(crate) nodes: [Node; 8],
+}
+
+// A byte with bit i set.
+#[tactic(auto, using(crate::proofs::Masks::bit_set))]
+fn with_bit(byte: u8, i: usize) -> u8
+    requires { i < 8 }
+    ensures { (j : ℕ) → bit_of result j ≡ (if i == j then true else bit_of byte j) }
+{
+    byte | 1 << i
 }
 
 impl Answers {
@@ -31,6 +42,7 @@ impl Answers {
     }
 
     /// Whether node i was fetched.
+    #[tactic(auto, using(crate::proofs::Masks::bits))]
     pub fn has(&self, i: usize) -> bool
         ensures { result ≡ got self.now i }
     {
@@ -63,11 +75,12 @@ impl Answers {
         ensures nodes { self.new.nodes ≡ self.old.nodes }
     {
         if i < 8 {
-            self.fetched |= 1u8 << i;
+            self.fetched = with_bit(self.fetched, i);
         }
     }
 
     /// Whether the round closes: n - f nodes were fetched.
+    #[tactic(auto, using(crate::proofs::Masks::closes_is))]
     pub fn closes<C: Code>(&self) -> bool
         ensures { result ≡ closes C.Code.meaning (got self.now) }
     {
@@ -76,16 +89,24 @@ impl Answers {
         fetched.count_ones() as usize >= C::N - C::F
     }
 
+    // Node i, if it was fetched.
+    pub(crate) fn at(&self, i: usize) -> Option<&Node>
+        requires { i < 8 }
+        ensures { (m : Meaning) → option_map (λ x. node_of m x.now) result ≡ (if got self.now i then Some (answer m self.now i) else None) }
+    {
+        if self.has(i) {
+            Some(&self.nodes[i])
+        } else {
+            None
+        }
+    }
+
     // The higher of a stamp and the floor of node i, if that was fetched.
     fn floor_over<C: Code>(&self, top: Stamp, i: usize) -> Stamp
         requires { i < 8 }
         ensures { stamp_of result ≡ (if got self.now i then higher (stamp_of top) (answer C.Code.meaning self.now i).floor else stamp_of top) }
     {
-        if self.has(i) {
-            top.higher(self.nodes[i].floor())
-        } else {
-            top
-        }
+        self.at(i).map_or(top, |node| top.higher(node.floor()))
     }
 
     /// The highest floor in the answers.
@@ -104,11 +125,7 @@ impl Answers {
         requires { i < 8 }
         ensures { result ≡ (if got self.now i then list_count (answer C.Code.meaning self.now i).floor.count (node_stamps (answer C.Code.meaning self.now i)) else 0) }
     {
-        if self.has(i) {
-            self.nodes[i].top_count::<C>()
-        } else {
-            0
-        }
+        self.at(i).map_or(0, |node| node.top_count::<C>())
     }
 
     /// The highest count in any stamp of the answers, floors included.
