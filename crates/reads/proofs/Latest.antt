@@ -3,9 +3,18 @@ use Rattle.std.proofs.Common.{◌≡◌, ℕ, suc, ◌+◌, ◌<◌, Bool, true,
 use Rattle.code.specs.Meaning.{Meaning}
 use Rattle.register.specs.Stamps.{Stamp, below, lowest}
 use Rattle.register.specs.Nodes.{Bytes, Node}
-use Rattle.register.specs.Reading.{Rebuilt, later, under, record_under, highest}
+use Rattle.register.specs.Reading.{node_stamps, Rebuilt, later, under, record_under, highest}
 use Rattle.register.proofs.Highest.{later_none_right, later_assoc, highest_append}
 use Rattle.reads.specs.Finds.{is_later}
+
+-- the stamps of a node that was fetched, and of one that was not
+pub stamps_here : (b : Bool) (x y : Node) → cond b (some x) none ≡ some y → cond b (node_stamps x) [] ≡ node_stamps y
+stamps_here true x y e = cc
+stamps_here false x y e = absurd (let z : ◌≡◌ {A = ℕ} 0 1 = cc in omega arith)
+
+pub stamps_nowhere : (b : Bool) (x : Node) → ◌≡◌ {A = Option Node} (cond b (some x) none) none → cond b (node_stamps x) [] ≡ []
+stamps_nowhere true x e = absurd (let z : ◌≡◌ {A = ℕ} 0 1 = cc in omega arith)
+stamps_nowhere false x e = refl
 
 module _ (m : Meaning) (Q : ℕ → Bool) (a : ℕ → Node) (F : Stamp) where
   none_listed : highest m Q a F [] ≡ none

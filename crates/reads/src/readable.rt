@@ -104,12 +104,12 @@ impl Answers {
         requires { i < 8 }
         ensures { found_of result ≡ later (found_of found) (highest C.Code.meaning (got self.now) (answer C.Code.meaning self.now) (stamp_of floor) (if got self.now i then node_stamps (answer C.Code.meaning self.now i) else [])) }
     {
-        if !self.has(i) {
+        let Some(node) = self.at(i) else {
             return found;
-        }
+        };
         let mut best = found;
-        for j in 0..self.nodes[i].items::<C>() {
-            best = self.offer::<C>(best, self.nodes[i].stamp_at::<C>(j), floor);
+        for j in 0..node.items::<C>() {
+            best = self.offer::<C>(best, node.stamp_at::<C>(j), floor);
         }
         best
     }
