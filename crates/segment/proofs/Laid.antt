@@ -36,7 +36,7 @@ empty_mails m p e = fun_ext (λ i. ap (λ x. cond (ltb i m.n) (mail_as (request 
     go false d q a = refl
 
 module _ (m : Meaning) (clients count : ℕ) (r : register.Bytes) (s : State) (x : Entry) where
-  pub laid_view : s.clients ≡ clients → clients ≤ 8 → s.entries ≡ replicate 8 x → x.phase ≡ Off → x.post.mails ≡ replicate 8 Empty
+  pub laid_view : s.clients ≡ clients → clients ≤ 8 → s.table.entries ≡ replicate 8 x → x.phase ≡ Off → x.post.mails ≡ replicate 8 Empty
       → ((j : ℕ) → j < m.n → node m (get_or s.nodes j past_nodes) ≡ record { floor = record { count = count; client = 0 }; shelf = record { stamp = record { count = count; client = 0 }; bytes = m.piece r j } ∷ []; spare = register.free })
       → view_of m s ≡ machine.laid_out m clients count r
   unfolding machine.laid_out

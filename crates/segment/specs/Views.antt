@@ -79,7 +79,7 @@ no_entry = record {
 
 -- The entry of client c.
 abbrev pub entry : State → ℕ → Entry
-entry s c = slice_index_or s.entries c no_entry
+entry s c = slice_index_or s.table.entries c no_entry
 
 abbrev pub view_of : Meaning → State → machine.Segment
 view_of m s = record {

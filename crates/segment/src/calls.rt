@@ -1,8 +1,7 @@
 //! The calls of a segment, by client number. Each does the step of its name, or refuses and changes nothing.
-ghost use Rattle.std.specs.Prelude.{◌≡◌, Ok, Err, min, nat_lt, if◌then◌else◌};
+ghost use Rattle.std.specs.Prelude.{◌≡◌, min, nat_lt};
 ghost use Rattle.record.specs.Layout.{layout};
 ghost use Rattle.register.specs.Machine.{step, sign_on, sign_off, begin_write, begin_read, take, fetch, held, Next};
-ghost use Rattle.segment.specs.declared.refusals.Refusal.TheVariants.{NoClient, NoNode};
 ghost use Rattle.segment.specs.Views.{view};
 ghost use Rattle.segment.specs.Told.{did, took, fetched, place_after, counted, named, plain};
 
@@ -12,27 +11,11 @@ use code::Code;
 use record::Record;
 
 impl State {
-    // The place of a client in the table, if it is laid out.
-    fn client_at(&self, client: u32) -> Result<usize, Refusal>
-        ensures { result ≡ (if nat_lt client (min self.now.clients 8) then Ok client else Err NoClient) }
+    // Whether a client is laid out.
+    fn has_client(&self, client: u32) -> bool
+        ensures { result ≡ nat_lt client (min self.now.clients 8) }
     {
-        if client < u32::from(self.clients) && client < 8 {
-            Ok(client as usize)
-        } else {
-            Err(Refusal::NoClient)
-        }
-    }
-}
-
-// The place of a node, if the segment has it.
-fn node_at<C: Code>(node: u32) -> Result<usize, Refusal>
-    ensures { result ≡ (if nat_lt node C.Code.meaning.n then Ok node else Err NoNode) }
-{
-    let i = node as usize;
-    if i < C::N {
-        Ok(i)
-    } else {
-        Err(Refusal::NoNode)
+        client < u32::from(self.clients) && client < 8
     }
 }
 
@@ -42,8 +25,10 @@ impl<C: Code> Segment<C> {
         ensures after { view C.Code.meaning self.new ≡ (step C.Code.meaning (sign_on client) (view C.Code.meaning self.old)).after }
         ensures answer { did result ≡ plain (step C.Code.meaning (sign_on client) (view C.Code.meaning self.old)).outcome }
     {
-        let c = self.state.client_at(client)?;
-        self.state.entries[c].sign_on::<C>()
+        if !self.state.has_client(client) {
+            return Err(Refusal::NoClient);
+        }
+        self.state.table.sign_on::<C>(client as usize)
     }
 
     /// Signs a client off that has no operation open. Its requests that wait stay where they are.
@@ -51,8 +36,10 @@ impl<C: Code> Segment<C> {
         ensures after { view C.Code.meaning self.new ≡ (step C.Code.meaning (sign_off client) (view C.Code.meaning self.old)).after }
         ensures answer { did result ≡ plain (step C.Code.meaning (sign_off client) (view C.Code.meaning self.old)).outcome }
     {
-        let c = self.state.client_at(client)?;
-        self.state.entries[c].sign_off::<C>()
+        if !self.state.has_client(client) {
+            return Err(Refusal::NoClient);
+        }
+        self.state.table.sign_off::<C>(client as usize)
     }
 
     /// Begins a write: a Look round goes out to all nodes.
@@ -60,8 +47,12 @@ impl<C: Code> Segment<C> {
         ensures after { view C.Code.meaning self.new ≡ (step C.Code.meaning (begin_write client (layout content.now)) (view C.Code.meaning self.old)).after }
         ensures answer { did result ≡ plain (step C.Code.meaning (begin_write client (layout content.now)) (view C.Code.meaning self.old)).outcome }
     {
-        let c = self.state.client_at(client)?;
-        self.state.entries[c].begin_write::<C>(content.to_bytes())
+        if !self.state.has_client(client) {
+            return Err(Refusal::NoClient);
+        }
+        self.state
+            .table
+            .begin_write::<C>(client as usize, content.to_bytes())
     }
 
     /// Begins a read that may open so many Look rounds, 1 to 250. The first goes out to all nodes.
@@ -69,8 +60,10 @@ impl<C: Code> Segment<C> {
         ensures after { view C.Code.meaning self.new ≡ (step C.Code.meaning (begin_read client rounds) (view C.Code.meaning self.old)).after }
         ensures answer { did result ≡ plain (step C.Code.meaning (begin_read client rounds) (view C.Code.meaning self.old)).outcome }
     {
-        let c = self.state.client_at(client)?;
-        self.state.entries[c].begin_read::<C>(rounds)
+        if !self.state.has_client(client) {
+            return Err(Refusal::NoClient);
+        }
+        self.state.table.begin_read::<C>(client as usize, rounds)
     }
 
     /// Lets a node carry out the request of a client that waits there, and tells which round it was of.
@@ -78,9 +71,16 @@ impl<C: Code> Segment<C> {
         ensures after { view C.Code.meaning self.new ≡ (step C.Code.meaning (take client node) (view C.Code.meaning self.old)).after }
         ensures answer { took result ≡ plain (step C.Code.meaning (take client node) (view C.Code.meaning self.old)).outcome }
     {
-        let c = self.state.client_at(client)?;
-        let i = node_at::<C>(node)?;
-        self.state.entries[c].take::<C>(i, &mut self.state.nodes[i])
+        if !self.state.has_client(client) {
+            return Err(Refusal::NoClient);
+        }
+        if node as usize >= C::N {
+            return Err(Refusal::NoNode);
+        }
+        let i = node as usize;
+        self.state
+            .table
+            .take::<C>(client as usize, i, &mut self.state.nodes[i])
     }
 
     /// Removes a node's answer from a client's mailbox, for the client's open operation.
@@ -90,17 +90,25 @@ impl<C: Code> Segment<C> {
         ensures answer { fetched result place.new ≡ plain (step C.Code.meaning (fetch client node) (view C.Code.meaning self.old)).outcome }
         ensures place { layout place.new ≡ place_after (plain (step C.Code.meaning (fetch client node) (view C.Code.meaning self.old)).outcome) (layout place.old) }
     {
-        let c = self.state.client_at(client)?;
-        let i = node_at::<C>(node)?;
-        self.state.entries[c].fetch::<C>(c as u8, i, place)
+        if !self.state.has_client(client) {
+            return Err(Refusal::NoClient);
+        }
+        if node as usize >= C::N {
+            return Err(Refusal::NoNode);
+        }
+        self.state
+            .table
+            .fetch::<C>(client as usize, node as usize, place)
     }
 
     /// How many bytes of records a node holds.
     pub fn held(&self, node: u32) -> Result<usize, Refusal>
         ensures { counted result ≡ held C.Code.meaning node (view C.Code.meaning self.now) }
     {
-        let i = node_at::<C>(node)?;
-        Ok(self.state.nodes[i].held::<C>())
+        if node as usize >= C::N {
+            return Err(Refusal::NoNode);
+        }
+        Ok(self.state.nodes[node as usize].held::<C>())
     }
 
     /// Some client and node where a request waits. Which of them is named is not promised.
@@ -108,10 +116,7 @@ impl<C: Code> Segment<C> {
         ensures { Next C.Code.meaning (view C.Code.meaning self.now) (named result) }
     {
         for client in 0..self.state.clients.min(8) {
-            if let Some(node) = self.state.entries[usize::from(client)]
-                .post
-                .first_waiting::<C>()
-            {
+            if let Some(node) = self.state.table.first_waiting::<C>(client as usize) {
                 return Ok(Waiting { client, node });
             }
         }

@@ -13,7 +13,7 @@ ghost use Rattle.segment.specs.Refusals.{refused};
 ghost use Rattle.segment.specs.Views.{view};
 
 use crate::refusals::Refusal;
-use crate::state::{Entry, Mail, Phase, Post, Request, Rounds, Segment, State};
+use crate::state::{Entry, Mail, Phase, Post, Request, Rounds, Segment, State, Table};
 use code::Code;
 use node::{Node, Stamp, Stamped};
 use reads::Answers;
@@ -84,7 +84,9 @@ impl<C: Code> Segment<C> {
         let state = State {
             clients: clients as u8,
             nodes: first_nodes::<C>(stamp, first_bytes(*first)),
-            entries: [first_entry(); 8],
+            table: Table {
+                entries: [first_entry(); 8],
+            },
         };
         Ok(Segment {
             state,

@@ -12,6 +12,7 @@ mod laying;
 pub mod posts;
 pub mod refusals;
 pub mod state;
+pub mod tables;
 
 pub use refusals::{Ending, Refusal};
 pub use state::{Fetched, Reading, Round, Segment, Sight, Waiting};

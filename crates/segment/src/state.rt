@@ -69,12 +69,18 @@ pub(crate) struct Entry {
     pub(crate) post: Post,
 }
 
-// How many clients are laid out, the nodes, and the entries of the clients.
+// The client table.
+#[derive(Clone, Copy)]
+pub(crate) struct Table {
+    pub(crate) entries: [Entry; 8],
+}
+
+// The clients laid out, the nodes, and the client table.
 #[derive(Clone, Copy)]
 pub(crate) struct State {
     pub(crate) clients: u8,
     pub(crate) nodes: [Node; 8],
-    pub(crate) entries: [Entry; 8],
+    pub(crate) table: Table,
 }
 
 /// A segment whose nodes hold the pieces of the code C.
@@ -92,7 +98,7 @@ pub enum Sight {
 }
 
 /// What a read found, beside the record itself.
-#[derive(Clone, Copy, PartialEq, Eq, Debug)]
+#[derive(Clone, Copy)]
 pub struct Reading {
     /// how many Look rounds it opened
     pub rounds: u8,
@@ -102,7 +108,7 @@ pub struct Reading {
 }
 
 /// What a fetch came to.
-#[derive(Clone, Copy, PartialEq, Eq, Debug)]
+#[derive(Clone, Copy)]
 pub enum Fetched {
     /// The answer was kept, and the round goes on.
     Kept,

@@ -19,7 +19,7 @@ returns g c =
     let x = c.first_entry.result in
     let each : (j : ℕ) → j < m.n → node m (get_or c.first_nodes.result j past_nodes) ≡ record { floor = record { count = count; client = 0 }; shelf = record { stamp = record { count = count; client = 0 }; bytes = m.piece (layout r) j } ∷ []; spare = free } =
     subst (λ b. (j : ℕ) → j < m.n → node m (get_or c.first_nodes.result j past_nodes) ≡ record { floor = record { count = count; client = 0 }; shelf = record { stamp = record { count = count; client = 0 }; bytes = m.piece b j } ∷ []; spare = free }) c.first_bytes.ensures.bytes c.first_nodes.ensures in
-    let laid = laid_view m c.args.clients count (layout r) (record { clients = c.args.clients; nodes = c.first_nodes.result; entries = x ∷ x ∷ x ∷ x ∷ x ∷ x ∷ x ∷ x ∷ [] }) x refl few refl c.first_entry.ensures.off c.first_entry.ensures.empty each in
+    let laid = laid_view m c.args.clients count (layout r) (record { clients = c.args.clients; nodes = c.first_nodes.result; table = record { entries = x ∷ x ∷ x ∷ x ∷ x ∷ x ∷ x ∷ x ∷ [] } }) x refl few refl c.first_entry.ensures.off c.first_entry.ensures.empty each in
     record {
       refuses = accepted;
       laid = laid;

@@ -1,27 +1,23 @@
-use Rattle.std.proofs.Common.{◌≡◌, ◌<◌, length, Err, sym, ap, ◌∙◌, rules}
-use Rattle.register.specs.Machine.{sign_off, off_turn}
+use Rattle.std.proofs.Common.{◌≡◌, min, true, false, ltb, rules}
+use Rattle.register.specs.Machine.{sign_off}
 use Rattle.segment.specs.Views.{view_of}
-use Rattle.segment.specs.Told.{did}
-use Rattle.segment.proofs.Put.{there, nowhere, turn_done, refused_done}
+use Rattle.segment.proofs.Put.{done_as, turn_done, refused_done}
 use Rattle.segment.proofs.Stepped.{no_client, off_step}
 use Rattle.segment.proofs.state.Segment.sign_off.Goals as goal
 
-pub returns-in_err-c : goal.returns-in_err-c
-returns-in_err-c g c =
+pub returns-then-not-has_client : goal.returns-then-not-has_client
+returns-then-not-has_client g c =
     let m = g.C.Code.meaning in
     let s = c.args.self.now.state in
-    let z = nowhere _ _ _ _ (sym c.client_at.ensures ∙ c.in_err-c.was) in
-    let r : c.from_residual.result ≡ Err c.in_err-c.field-0.0 = search rules in
-    let d = refused_done m s 8 _ (no_client m (view_of m s) (sign_off c.args.client) z.0) in
-    let t = ap (λ r. did r) (r ∙ ap Err z.1) ∙ d.answer in
-    record { after = d.after; answer = t }
+    let h : ltb c.args.client (min s.clients 8) ≡ false = search rules in
+    let d = refused_done m s 8 _ (no_client m (view_of m s) (sign_off c.args.client) h) in
+    record { after = d.after; answer = d.answer }
 
 pub returns : goal.returns
 returns g c =
     let m = g.C.Code.meaning in
     let s = c.args.self.now.state in
-    let z = there _ _ _ _ (sym c.client_at.ensures ∙ c.in_ok-c.was) in
-    let l : c.in_ok-c.c < length s.entries = search rules in
+    let h : ltb c.args.client (min s.clients 8) ≡ true = search rules in
     let x = c.sign_off in
-    let d = turn_done m s c.in_ok-c.c x.new.self l c.args.client c.index-self-c.result _ (off_turn) _ z.1 x.ensures (off_step m (view_of m s) c.args.client z.0) in
+    let d = done_as m _ _ _ _ (off_step m (view_of m s) c.args.client h) (turn_done m s x.new.self.entries c.args.client x.ensures.long x.ensures.framed _ _ x.ensures.turned) in
     record { after = d.after; answer = d.answer }
