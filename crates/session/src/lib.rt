@@ -7,7 +7,7 @@
 //! A `take` needs no session, since the bus carries requests; nor do the calls that only look at a segment.
 #![tactic(auto)]
 
-ghost use Rattle.std.specs.Prelude.{◌≡◌, IfOk, IfErr};
+ghost use Rattle.std.specs.Prelude.{◌≡◌, ◌≤◌, IfOk, IfErr};
 ghost use Rattle.record.specs.Layout.{layout};
 ghost use Rattle.register.specs.Machine.{step, sign_on, sign_off, begin_write, begin_read, fetch};
 ghost use Rattle.segment.specs.Views.{view};
@@ -29,9 +29,10 @@ pub struct Session {
 }
 
 impl Drop for Session {
-    // Nobody can meet this, so no session is dropped: where one would be, the check asks for a proof of it.
+    // Client 8 and above are in no segment, and no sign-on gives a session of one. So none that was given can be dropped: where
+    // one would be, the check asks for a proof of this.
     fn drop(self)
-        requires signed_off_or_parked { ⊥ }
+        requires of_no_client { 8 ≤ client_of self }
     {
         let Session { client: _ } = self;
     }
