@@ -13,7 +13,7 @@ use parity::P6;
 use record::{Record, RecordError};
 use std::alloc::Global;
 use std::fmt;
-use std::io::BufRead;
+use std::io::{BufRead, BufReader};
 use trials::{Nodes, Survival};
 use whiten::W6;
 
@@ -55,6 +55,19 @@ impl fmt::Display for Fields<'_> {
     }
 }
 
+/// The fields of what came back, or nothing where nothing did.
+#[derive(Clone, Copy)]
+struct GivenBack(Option<Record>);
+
+impl fmt::Display for GivenBack {
+    fn fmt<W: fmt::Write>(&self, f: &mut fmt::Formatter<W>) -> fmt::Result {
+        match &self.0 {
+            Some(record) => write!(f, "{}", Fields(record)),
+            None => Ok(()),
+        }
+    }
+}
+
 // The record of a line, or its refusal: what is not 48 hex digits is not 24 bytes.
 fn record_of(line: &[u8]) -> Result<Record, RecordError> {
     Record::from_bytes(&hex::bytes_of(line).ok_or(RecordError::Length)?)
@@ -69,21 +82,19 @@ fn show_pieces<C: Named>(rt: &impl Print, nodes: &Nodes<C>) -> anyhow::Result<()
 }
 
 // From how many choices of silent nodes a record came back, and what came back.
+// One print for the line: each print is a write of its own, and between two a reader would meet half a line.
 fn show_survival<C: Named>(rt: &impl Print, all: Survival) -> anyhow::Result<()> {
     let Survival {
         choices,
         survived,
         rebuilt,
     } = all;
-    print!(rt;
-        "{} with {} silent: {survived} of {choices} choices give back\t",
+    let back = GivenBack(rebuilt.and_then(|bytes| Record::from_bytes(&bytes).ok()));
+    println!(rt;
+        "{} with {} silent: {survived} of {choices} choices give back\t{back}",
         C::NAME,
         C::F
     )?;
-    match rebuilt.and_then(|bytes| Record::from_bytes(&bytes).ok()) {
-        Some(record) => println!(rt; "{}", Fields(&record))?,
-        None => println!(rt; "")?,
-    }
     Ok(())
 }
 
@@ -111,7 +122,8 @@ fn answer(rt: &(impl Print + Alloc<A = Global>), line: &[u8]) -> anyhow::Result<
 }
 
 fn run(rt: &(impl Input + Print + Alloc<A = Global>)) -> anyhow::Result<()> {
-    for line in rt.reader().split(rt.alloc(), b'\n') {
+    // Buffered: from a pipe the runtime's own reader takes one byte at a time.
+    for line in BufReader::new(rt.alloc(), rt.reader())?.split(rt.alloc(), b'\n') {
         answer(rt, line?.as_slice())?;
     }
     Ok(())
