@@ -5,13 +5,25 @@ ghost use Rattle.record.specs.Tens.{raised, ten_thousandths};
 
 use crate::fields::{Exponent, Number, Record};
 
+// A table, and no `pow`: that loops over the exponent's bits, twice a comparison.
+const POWERS_OF_TEN: [i64; 9] = [
+    1,
+    10,
+    100,
+    1_000,
+    10_000,
+    100_000,
+    1_000_000,
+    10_000_000,
+    100_000_000,
+];
+
 impl Exponent {
     // 10^(exponent + 4)
-    #[tactic(auto, using(crate::proofs::Scaling::power_bound))]
     fn raised_power(self) -> i64
         ensures { result ≡ pos (10 ^ raised self.value) }
     {
-        10_i64.pow((self.value + 4) as u32)
+        POWERS_OF_TEN[(self.value + 4) as usize]
     }
 }
 
