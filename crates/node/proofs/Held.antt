@@ -8,7 +8,6 @@ use Rattle.std.proofs.Math.ListN.{get_or-map as get_or-map_same}
 use Rattle.std.proofs.lemmas.List.Quantifiers.{position-Some}
 use Rattle.std.proofs.lemmas.List.Folds.{find_at}
 use Rattle.std.proofs.lemmas.Bool.Decides.{nat_tests}
-use Rattle.std.proofs.iter.runs.Made.{chains}
 use Rattle.std.specs.Int.{from_bool}
 use Rattle.code.specs.Meaning.{Meaning, Lawful}
 use Rattle.register.specs.Stamps.{Stamp, below, same_stamp, lowest}
@@ -120,9 +119,17 @@ module _ (m : Meaning) (a : Node) where
       ap (λ v. get_or v j lowest) stamps_are ∙ get_or-map_same stamp in_memory j no_stamp
       ∙ ap stamp (item_listed (map (λ x. x.tag) ps) (stamp_in a.spare) j no_stamp ∙ rw shelf)
 
-  -- the highest count in them
-  pub top_stamp : (n : ℕ) → list_count n (node_stamps (node m a)) ≡ fold (λ top s. max top s.count) n in_memory
-  top_stamp n = ap (list_count n) stamps_are ∙ sym (top_of n in_memory)
+  -- the highest count in them: those on the shelf, then that of the spare
+  pub top_stamp : (n : ℕ)
+      → list_count n (node_stamps (node m a))
+      ≡ max (fold (λ top s. max top s.count) n (map (λ x. x.tag) (pieces no_stamp m a.shelf))) (unwrap_or (stamp_in a.spare) no_stamp).count
+  top_stamp n = ap (list_count n) stamps_are ∙ sym (top_of n in_memory) ∙ behind (map (λ x. x.tag) (pieces no_stamp m a.shelf)) n (stamp_in a.spare)
+    where
+      behind : (ts : List memory.Stamp) (n : ℕ) (o : Option memory.Stamp)
+          → fold (λ top s. max top s.count) n (ts ++ cons_option o []) ≡ max (fold (λ top s. max top s.count) n ts) (unwrap_or o no_stamp).count
+      behind [] n None = omega arith
+      behind [] n (Some t) = refl
+      behind (t ∷ ts) n o = behind ts (max n t.count) o
 
   -- the bytes that it holds
   pub held_is : held_bytes m.w (node m a) ≡ min a.shelf.count m.k * m.w + spare_bytes m.w (spare m a.spare)
@@ -205,7 +212,5 @@ pub ruleset counts = (nat_tests, length_shelf)
 pub ruleset placed = (place_used, piece_there, piece_nowhere)
 
 pub ruleset items = (nat_tests, stamp_item)
-
-pub ruleset tops = (chains, top_stamp)
 
 pub ruleset bytes = (held_is, held_few)

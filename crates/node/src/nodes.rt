@@ -65,7 +65,7 @@ impl Node {
         if self.is_under(floor) {
             self.floor = floor;
             self.shelf = self.shelf.cleared::<C>(floor);
-            self.spare = self.spare.cut::<C>(i, floor);
+            self.spare.cut::<C>(i, floor);
         }
     }
 
@@ -145,14 +145,14 @@ impl Node {
     }
 
     /// The highest count in any stamp of the node, the floor's included.
-    #[tactic(auto, using(crate::proofs::Held::tops))]
+    #[tactic(auto, using(crate::proofs::Held::top_stamp))]
     pub fn top_count<C: Code>(&self) -> u32
         ensures { result ≡ list_count (node_of C.Code.meaning self.now).floor.count (node_stamps (node_of C.Code.meaning self.now)) }
     {
-        let stamps = self.shelf.tags::<C>().iter().copied();
-        stamps
-            .chain(self.spare.stamp())
-            .fold(self.floor.count, |top, s| top.max(s.count))
+        // The spare's after the fold: a `chain` would ask at each stamp which of the two it is in.
+        let shelf = self.shelf.tags::<C>().iter();
+        let top = shelf.fold(self.floor.count, |top, s| top.max(s.count));
+        top.max(self.spare.stamp().unwrap_or_default().count)
     }
 
     /// The piece under a stamp.

@@ -21,16 +21,20 @@ pub enum Spare {
 impl Spare {
     // What a floor leaves of it: a lower stamp frees it, and a whole record under the floor itself is cut to its piece i.
     #[tactic(auto, unfolding(register::specs::Nodes::cut))]
-    pub(crate) fn cut<C: Code>(self, i: u8, floor: Stamp) -> Spare
-        ensures { i < C.Code.meaning.n → spare_of C.Code.meaning result ≡ cut C.Code.meaning i (stamp_of floor) (spare_of C.Code.meaning self) }
+    pub(crate) fn cut<C: Code>(&mut self, i: u8, floor: Stamp)
+        ensures { i < C.Code.meaning.n → spare_of C.Code.meaning self.new ≡ cut C.Code.meaning i (stamp_of floor) (spare_of C.Code.meaning self.old) }
     {
-        match self {
-            Spare::Piece(held) | Spare::Whole(held) if held.stamp.is_below(floor) => Spare::Free,
-            Spare::Whole(held) if held.stamp.is(floor) => Spare::Piece(Stamped {
-                stamp: held.stamp,
-                bytes: C::encode(held.bytes, i),
-            }),
-            kept => kept,
+        match *self {
+            Spare::Piece(held) | Spare::Whole(held) if held.stamp.is_below(floor) => {
+                *self = Spare::Free;
+            }
+            Spare::Whole(held) if held.stamp.is(floor) => {
+                *self = Spare::Piece(Stamped {
+                    stamp: held.stamp,
+                    bytes: C::encode(held.bytes, i),
+                });
+            }
+            _ => {}
         }
     }
 
