@@ -1,5 +1,5 @@
 -- Whitening over a code is a code.
-use Rattle.std.specs.Prelude.{◌≡◌, ℕ, zero, suc, ◌+◌, ◌*◌, ◌/◌, ◌%◌, ◌<◌, ◌≤◌, List, [], ◌∷◌, map, length, get_or, take, drop, bit_xor, slice_index, slice_index_or}
+use Rattle.std.specs.Prelude.{◌≡◌, ℕ, zero, suc, ◌+◌, ◌*◌, ◌/◌, ◌%◌, ◌<◌, ◌≤◌, List, [], map, length, get_or, take, drop, bit_xor, slice_index, slice_index_or}
 use Rattle.std.proofs.Common.{sym, ap, ap₂, ◌∙◌, mod-lt, le_refl, arith, length-drop}
 use Rattle.std.specs.Int.Bits.{xor_assoc, xor_self, xor_zero_r}
 use Rattle.std.specs.List.{range_with_len}
@@ -131,7 +131,3 @@ width_least c law =
     let le : c.k ≤ 8 = omega arith in
     let up = mul-le c.k c.w 8 c.w le (le_refl c.w) in
     omega arith
-
--- lists of one element are equal only if the elements are
-pub only_part : {x y : List ℕ} → ◌≡◌ {A = List (List ℕ)} (x ∷ []) (y ∷ []) → x ≡ y
-only_part {x} {y} e = ap (λ (ps : List (List ℕ)). get_or ps 0 []) e
